@@ -1,0 +1,5 @@
+# The wrappers against plain Rust. The archive is the proved one.
+set -e
+rt staticlib abi
+cd rust
+cargo test --release --offline --quiet

@@ -1,0 +1,98 @@
+-- How an operation shows that it meets its outcome: test after test, then what it leaves in the lent memory.
+use Prim.Native.Nat.{ℕ, _≤_, zero-le}
+use mathlib.Core.Bool.{Bool, true, false}
+use mathlib.Core.Path.{_≡_, refl, ap, _∙_}
+use lib.IntN.{ℤ}
+use Rattle.basics.specs.declared.Refusal.{Refusal}
+use Rattle.basics.specs.declared.Answer.{Answer}
+use Rattle.basics.specs.declared.Answer.the-variants.{Done, Counted, Refused}
+use Rattle.basics.specs.Outcome.{Outcome, refused, accepted, counted, check, answer, left, counts, status, Meets, Reports}
+
+module _ {M : Type 0} where
+  -- a test as an equation of outcomes
+  pub check-true : {b : Bool} (e : Refusal) (o : Outcome M) → b ≡ true → check b e o ≡ o
+  unfolding check
+  check-true e o h = rw h
+
+  pub check-false : {b : Bool} (e : Refusal) (o : Outcome M) → b ≡ false → check b e o ≡ refused e
+  unfolding check
+  check-false e o h = rw h
+
+  -- the code went on after a test
+  pub pass : (e : Refusal) {b : Bool} {o : Outcome M} {r : Answer} {old new : M} → b ≡ true → Meets o r old new → Meets (check b e o) r old new
+  unfolding check
+  pass e h m = rw h m
+
+  -- the code refused at a test, before it wrote anything
+  pub refuse : {b : Bool} {e : Refusal} (o : Outcome M) {old : M} → b ≡ false → Meets (check b e o) (Refused e) old old
+  unfolding check answer left
+  refuse o h = rw h (record { answers = refl; leaves = refl })
+
+  -- the code did its work
+  pub accept : {m old new : M} → new ≡ m → Meets (accepted m) Done old new
+  unfolding answer left
+  accept h = record { answers = refl; leaves = h }
+
+  pub count : {n k : ℕ} {m old new : M} → k ≡ n → new ≡ m → Meets (counted n m) (Counted k) old new
+  unfolding answer left
+  count e h = record { answers = rw e; leaves = h }
+
+  -- an outcome in other words
+  pub meets-as : {o p : Outcome M} {r : Answer} {old new : M} → o ≡ p → Meets p r old new → Meets o r old new
+  meets-as e m = rw e m
+
+  -- ---- what an outcome says to the caller
+
+  -- what is accepted, or counted, has passed the test
+  pub passed : {b : Bool} (e : Refusal) {o : Outcome M} {m : M} → check b e o ≡ accepted m → (b ≡ true) × (o ≡ accepted m)
+  unfolding check
+  passed {b = true} e q = (refl, q)
+  passed {b = false} e q = (cc, cc)
+
+  pub passed-count : {b : Bool} (e : Refusal) {o : Outcome M} {n : ℕ} {m : M} → check b e o ≡ counted n m → (b ≡ true) × (o ≡ counted n m)
+  unfolding check
+  passed-count {b = true} e q = (refl, q)
+  passed-count {b = false} e q = (cc, cc)
+
+  pub met-refused : {o : Outcome M} {r : Answer} {old new : M} (e : Refusal) → Meets o r old new → o ≡ refused e → (r ≡ Refused e) × (new ≡ old)
+  unfolding answer left
+  met-refused e m q = (rw q at (m .answers), rw q at (m .leaves))
+
+  pub met-accepted : {o : Outcome M} {r : Answer} {old new : M} (l : M) → Meets o r old new → o ≡ accepted l → (r ≡ Done) × (new ≡ l)
+  unfolding answer left
+  met-accepted l m q = (rw q at (m .answers), rw q at (m .leaves))
+
+  pub met-counted : {o : Outcome M} {r : Answer} {old new : M} (n : ℕ) (l : M) → Meets o r old new → o ≡ counted n l → (r ≡ Counted n) × (new ≡ l)
+  unfolding answer left
+  met-counted n l m q = (rw q at (m .answers), rw q at (m .leaves))
+
+  -- ---- several lists are lent: each is shown by itself
+
+  -- ---- as a C export reports it
+
+  -- a test adds no count: what an outcome counts is at most what its last part counts
+  pub counts-check : (n : ℕ) (b : Bool) (e : Refusal) (o : Outcome M) → counts (answer o) ≤ n → counts (answer (check b e o)) ≤ n
+  unfolding check answer
+  counts-check n true e o h = h
+  counts-check n false e o h = zero-le
+
+  pub counts-accepted : (n : ℕ) (m : M) → counts (answer (accepted m)) ≤ n
+  unfolding answer
+  counts-accepted n m = zero-le
+
+  pub report : {o : Outcome M} {a : Answer} {r : ℤ} {old new : M} → Meets o a old new → r ≡ status a → Reports o r old new
+  report m e = record { reports = e ∙ ap status (m .answers); leaves = m .leaves }
+
+module _ {M₁ M₂ : Type 0} where
+  pub accept-pair : {l₁ new₁ : M₁} {l₂ new₂ : M₂} {old : M₁ × M₂} → new₁ ≡ l₁ → new₂ ≡ l₂ → Meets (accepted (l₁, l₂)) Done old (new₁, new₂)
+  accept-pair e₁ e₂ = accept (rw (e₁, e₂))
+
+  pub count-pair : {n k : ℕ} {l₁ new₁ : M₁} {l₂ new₂ : M₂} {old : M₁ × M₂} → k ≡ n → new₁ ≡ l₁ → new₂ ≡ l₂ → Meets (counted n (l₁, l₂)) (Counted k) old (new₁, new₂)
+  count-pair e e₁ e₂ = count e (rw (e₁, e₂))
+
+module _ {M₁ M₂ M₃ : Type 0} where
+  pub accept-triple : {l₁ new₁ : M₁} {l₂ new₂ : M₂} {l₃ new₃ : M₃} {old : M₁ × M₂ × M₃} → new₁ ≡ l₁ → new₂ ≡ l₂ → new₃ ≡ l₃ → Meets (accepted (l₁, l₂, l₃)) Done old (new₁, new₂, new₃)
+  accept-triple e₁ e₂ e₃ = accept (rw (e₁, e₂, e₃))
+
+  pub count-triple : {n k : ℕ} {l₁ new₁ : M₁} {l₂ new₂ : M₂} {l₃ new₃ : M₃} {old : M₁ × M₂ × M₃} → k ≡ n → new₁ ≡ l₁ → new₂ ≡ l₂ → new₃ ≡ l₃ → Meets (counted n (l₁, l₂, l₃)) (Counted k) old (new₁, new₂, new₃)
+  count-triple e e₁ e₂ e₃ = count e (rw (e₁, e₂, e₃))

@@ -1,0 +1,4 @@
+-- The definitions that every crate shares.
+pub mod Outcome
+pub mod Lists
+pub mod Bits

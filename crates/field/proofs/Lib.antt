@@ -1,0 +1,11 @@
+-- The laws of the fields, from exclusive or upwards.
+pub mod Sum
+mod Horner
+mod Polynomial
+mod Ring
+mod Remainders
+pub mod Field
+mod Generator
+mod Computed
+pub mod Galois
+pub mod Lookup
