@@ -1,9 +1,9 @@
 -- Curves and their points. F is the arithmetic of a field; nothing here supposes that its laws hold, or that coordinates are below q.
 use Prim.Native.Nat.{ℕ, zero, suc}
 use mathlib.Core.Bool.{Bool, _&&_}
-use mathlib.Core.List.{List, [], _++_}
+use mathlib.Core.List.{List, [], _∷_, _++_}
 use lib.Dec.{eqb, ltb}
-use Rattle.basics.specs.Lists.{any, filter, table}
+use Rattle.basics.specs.Lists.{all, any, filter, table}
 use Rattle.field.specs.Sum.{_⊕_}
 use Rattle.field.specs.Field.{Arithmetic}
 pub use Rattle.elliptic.specs.declared.Curve.{Curve}
@@ -11,6 +11,13 @@ pub use Rattle.elliptic.specs.declared.Point.{Point}
 
 abbrev pub point : ℕ → ℕ → Point
 point x y = record { x = x; y = y }
+
+-- the five coefficients in document 01's order, and whether all are below q
+abbrev pub coefficientsOf : Curve → List ℕ
+coefficientsOf C = C .g1 ∷ C .g2 ∷ C .g3 ∷ C .g4 ∷ C .g6 ∷ []
+
+unfoldable pub coefficientsBelow : ℕ → Curve → Bool
+coefficientsBelow q C = all (λ g. ltb g q) (coefficientsOf C)
 
 -- two points are the same
 abbrev pub samePoint : Point → Point → Bool
