@@ -29,7 +29,6 @@ module _ {F : Arithmetic} (K : Field F) (C : Curve) (below : coefficientsBelow (
   open Field K using (add-lt, mul-lt, mul-inv)
 
   coefficient : (i : ℕ) → i < 5 → getD (coefficientsOf C) i 0 < q
-  unfolding coefficientsBelow
   coefficient i h = ltb-true (getD (coefficientsOf C) i 0) q (all-get (λ g. ltb g q) (coefficientsOf C) 0 i below h)
 
   g1-lt : g1 < q

@@ -16,7 +16,7 @@ point x y = record { x = x; y = y }
 abbrev pub coefficientsOf : Curve → List ℕ
 coefficientsOf C = C .g1 ∷ C .g2 ∷ C .g3 ∷ C .g4 ∷ C .g6 ∷ []
 
-unfoldable pub coefficientsBelow : ℕ → Curve → Bool
+abbrev pub coefficientsBelow : ℕ → Curve → Bool
 coefficientsBelow q C = all (λ g. ltb g q) (coefficientsOf C)
 
 -- two points are the same

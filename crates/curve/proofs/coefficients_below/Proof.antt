@@ -20,7 +20,6 @@ passed-1 : (c : tie.Else1) → ltb (c .before .before .before .args .c .g1) (siz
 passed-1 c = let s = c .before .before .before .args in lt-ltb (s .c .g1) (size (s .m)) (omega arith)
 
 returns : tie.Need-returns
-unfolding coefficientsBelow
 returns c = let s = c .before .before .before .args in simp (le-ltb (s .c .g1) (size (s .m)) (omega arith))
 
 wide-requires-2 : tie.Need-wide-requires-2
@@ -30,7 +29,6 @@ passed-2 : (c : tie.Else2) → ltb (c .before .before .before .before .before .a
 passed-2 c = let s = c .before .before .before .before .before .args in lt-ltb (s .c .g2) (size (s .m)) (omega arith)
 
 returns-2 : tie.Need-returns-2
-unfolding coefficientsBelow
 returns-2 c = let s = c .before .before .before .before .before .args in simp (passed-1 (c .before .before), le-ltb (s .c .g2) (size (s .m)) (omega arith))
 
 wide-requires-3 : tie.Need-wide-requires-3
@@ -40,7 +38,6 @@ passed-3 : (c : tie.Else3) → ltb (c .before .before .before .before .before .b
 passed-3 c = let s = c .before .before .before .before .before .before .before .args in lt-ltb (s .c .g3) (size (s .m)) (omega arith)
 
 returns-3 : tie.Need-returns-3
-unfolding coefficientsBelow
 returns-3 c = let s = c .before .before .before .before .before .before .before .args in simp (passed-1 (c .before .before .before .before), passed-2 (c .before .before), le-ltb (s .c .g3) (size (s .m)) (omega arith))
 
 wide-requires-4 : tie.Need-wide-requires-4
@@ -50,14 +47,12 @@ passed-4 : (c : tie.Else4) → ltb (c .before .before .before .before .before .b
 passed-4 c = let s = c .before .before .before .before .before .before .before .before .before .args in lt-ltb (s .c .g4) (size (s .m)) (omega arith)
 
 returns-4 : tie.Need-returns-4
-unfolding coefficientsBelow
 returns-4 c = let s = c .before .before .before .before .before .before .before .before .before .args in simp (passed-1 (c .before .before .before .before .before .before), passed-2 (c .before .before .before .before), passed-3 (c .before .before), le-ltb (s .c .g4) (size (s .m)) (omega arith))
 
 wide-requires-5 : tie.Need-wide-requires-5
 wide-requires-5 c κs = search needs
 
 returns-5 : tie.Need-returns-5
-unfolding coefficientsBelow
 returns-5 c = simp (passed-1 (c .before .before .before .before .before .before .before), passed-2 (c .before .before .before .before .before), passed-3 (c .before .before .before), passed-4 (c .before), c .wide5 .ensures, c .before .before .before .before .before .before .before .before .before .size .ensures, and-true)
 
 pub coefficients-below-spec : {M : Type 1} → statement M

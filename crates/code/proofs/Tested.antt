@@ -1,0 +1,43 @@
+-- An operation that begins with the code test: it goes on where the answer is Done, and else the answer is the operation's own.
+use Prim.{Unit, tt}
+use Prim.Native.Nat.{_≤_}
+use mathlib.Core.Bool.{Bool, true, false}
+use mathlib.Core.Path.{_≡_, refl, sym, _∙_, ap}
+use mathlib.Core.Logic.{_⊎_, inl, inr}
+use Rattle.basics.specs.declared.Refusal.{Refusal}
+use Rattle.basics.specs.declared.Answer.{Answer}
+use Rattle.basics.specs.declared.Answer.the-variants.{Done, Refused}
+use Rattle.basics.specs.Outcome.{Outcome, refused, accepted, check, answer, left, Meets}
+use Rattle.basics.proofs.Outcomes.{meets-as}
+use Rattle.codewords.specs.Code.{Code, n, checkCode, codeAnswer}
+use Rattle.codewords.proofs.Accepted.{check-done, check-refused, accepted-done}
+
+-- a chain of tests before an accepted outcome answers Done, or refuses
+data Answered (a : Answer) : Type 0 where
+  done : a ≡ Done → Answered a
+  stopped : (e : Refusal) → a ≡ Refused e → Answered a
+
+answered : (b : Bool) (e : Refusal) (u : Outcome (Unit {0})) → Answered (answer u) → Answered (answer (check b e u))
+unfolding check answer
+answered true e u h = h
+answered false e u h = stopped e refl
+
+module _ (code : Code) where
+  verdict : Answered (codeAnswer code)
+  unfolding codeAnswer answer
+  verdict = answered _ _ _ (answered _ _ _ (answered _ _ _ (answered _ _ _ (answered _ _ _ (answered _ _ _ (answered _ _ _ (done refl)))))))
+
+  pub points-most : codeAnswer code ≡ Done → n code ≤ 288
+  points-most h = accepted-done code h .n-most
+
+  module _ {M : Type 0} (o : Outcome M) where
+    pub go-on : {r : Answer} {old new : M} → codeAnswer code ≡ Done → Meets o r old new → Meets (checkCode code o) r old new
+    go-on h m = meets-as (check-done code h o) m
+
+    pub stop : {r : Answer} {old : M} → r ≡ codeAnswer code → (r ≡ Done → ⊥) → Meets (checkCode code o) r old old
+    unfolding answer left
+    stop {r} {old} e d = by verdict
+      where
+        by : Answered (codeAnswer code) → Meets (checkCode code o) r old old
+        by (done h) = absurd (d (e ∙ h))
+        by (stopped x h) = meets-as (check-refused code h o) (record { answers = e ∙ h; leaves = refl })

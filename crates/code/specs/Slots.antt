@@ -1,0 +1,18 @@
+-- A number below 512 for each point of a curve, by which a point that stands twice is found in one pass.
+use Prim.Native.Nat.{ℕ, _+_, _*_}
+use mathlib.Core.Bool.{cond}
+use mathlib.Core.List.{List}
+use lib.Dec.{ltb}
+use lib.ListN.{getD}
+use Rattle.field.specs.Field.{Arithmetic}
+use Rattle.elliptic.specs.declared.Curve.{Curve}
+use Rattle.elliptic.specs.declared.Point.{Point}
+use Rattle.elliptic.specs.Curve.{point, opposite}
+
+-- twice X, and one more where the Y is the greater of the two over that X: over one X a curve has a point and its opposite, and no third
+unfoldable pub slot : Arithmetic → Curve → Point → ℕ
+slot F C P = P .x * 2 + cond (ltb (opposite F C P .y) (P .y)) 1 0
+
+-- the slot of the point at index i
+abbrev pub slotAt : Arithmetic → Curve → List ℕ → List ℕ → ℕ → ℕ
+slotAt F C xs ys i = slot F C (point (getD xs i 0) (getD ys i 0))

@@ -1,0 +1,12 @@
+-- The laws of means and packing.
+mod Stamps
+mod Runs
+mod Scan
+mod Numbers
+mod Stream
+mod Symbols
+mod Reading
+pub mod Counting
+pub mod Range
+pub mod Unpacking
+pub mod Cases
