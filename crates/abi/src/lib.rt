@@ -1,13 +1,146 @@
 // The C interface: plain numbers and slices in, one signed number out, which is 0 or a count where the call is accepted and minus document 01's
-// number where it is refused. A slice is a pointer and a length.
+// number where it is refused. A slice is a pointer and a length. Each export calls the operation of the same name.
+ghost use mathlib.Core.Path.{_≡_};
 ghost use lib.ListN.{length};
+ghost use Rattle.codewords.specs.Code.{codeOf};
 ghost use Rattle.basics.specs.Outcome.{Reports};
 ghost use Rattle.field.specs.Products.{productsOutcome};
+ghost use Rattle.curve.specs.Points.{pointsOutcome};
+ghost use Rattle.code.specs.Heard.{heardOutcome};
+ghost use Rattle.blocks.specs.Outcomes.{plainOutcome, packBlockOutcome, unpackBlockOutcome};
+ghost use Rattle.hours.specs.Means.{meansOutcome};
+ghost use Rattle.abi.specs.Arguments.{curveOf, parametersOf};
+use basics::status;
+use codewords::Parameters;
+use elliptic::Curve;
 
 // The products of two lists of symbols, element by element.
 #[no_mangle]
 pub extern "C" fn vakhudle_products(field: u8, a: &[u8], b: &[u8], out: &mut [u8]) -> i32
     ensures { λ r. ⌜ Reports (productsOutcome field (now (a .entry)) (now (b .entry)) (length (now (out .entry)))) r (now (out .entry)) (now (out .exit)) ⌝ }
 {
-    basics::status(field::products(field, a, b, out))
+    status(field::products(field, a, b, out))
+}
+
+// Points.
+#[no_mangle]
+pub extern "C" fn vakhudle_points(
+    field: u8,
+    g1: u8,
+    g2: u8,
+    g3: u8,
+    g4: u8,
+    g6: u8,
+    xs: &mut [u8],
+    ys: &mut [u8],
+) -> i32
+    ensures { λ r. ⌜ Reports (pointsOutcome field (curveOf g1 g2 g3 g4 g6) (now (xs .entry)) (now (ys .entry))) r
+        (now (xs .entry), now (ys .entry)) (now (xs .exit), now (ys .exit)) ⌝ }
+{
+    status(curve::points(field, Curve { g1, g2, g3, g4, g6 }, xs, ys))
+}
+
+// The parts of a code but its coordinate lists.
+fn parameters(field: u8, g1: u8, g2: u8, g3: u8, g4: u8, g6: u8, k: usize) -> Parameters
+    ensures { λ r. ⌜ r ≡ parametersOf field g1 g2 g3 g4 g6 k ⌝ }
+{
+    let curve = Curve { g1, g2, g3, g4, g6 };
+    Parameters { field, curve, k }
+}
+
+// Plain.
+#[no_mangle]
+pub extern "C" fn vakhudle_plain(
+    field: u8,
+    g1: u8,
+    g2: u8,
+    g3: u8,
+    g4: u8,
+    g6: u8,
+    xs: &[u8],
+    ys: &[u8],
+    k: usize,
+    coefficients: &[u8],
+    out: &mut [u8],
+) -> i32
+    ensures { λ r. ⌜ Reports (plainOutcome (codeOf (parametersOf field g1 g2 g3 g4 g6 k) (now (xs .entry)) (now (ys .entry))) (now (coefficients .entry)) (length (now (out .entry)))) r (now (out .entry)) (now (out .exit)) ⌝ }
+{
+    let parts = parameters(field, g1, g2, g3, g4, g6, k);
+    status(blocks::plain::plain(parts, xs, ys, coefficients, out))
+}
+
+// Heard.
+#[no_mangle]
+pub extern "C" fn vakhudle_heard(
+    field: u8,
+    g1: u8,
+    g2: u8,
+    g3: u8,
+    g4: u8,
+    g6: u8,
+    xs: &[u8],
+    ys: &[u8],
+    k: usize,
+    mask: &[u8],
+    out: &mut [u16],
+) -> i32
+    ensures { λ r. ⌜ Reports (heardOutcome (codeOf (parametersOf field g1 g2 g3 g4 g6 k) (now (xs .entry)) (now (ys .entry))) (now (mask .entry)) (now (out .entry))) r (now (out .entry)) (now (out .exit)) ⌝ }
+{
+    let parts = parameters(field, g1, g2, g3, g4, g6, k);
+    status(code::heard::heard(parts, xs, ys, mask, out))
+}
+
+// Means.
+#[no_mangle]
+pub extern "C" fn vakhudle_means(
+    stamps: &[u32],
+    readings: &[i16],
+    first: u32,
+    out: &mut [i16],
+) -> i32
+    ensures { λ r. ⌜ Reports (meansOutcome (now (stamps .entry)) (now (readings .entry)) first (length (now (out .entry)))) r (now (out .entry)) (now (out .exit)) ⌝ }
+{
+    status(hours::means::means(stamps, readings, first, out))
+}
+
+// Pack.
+#[no_mangle]
+pub extern "C" fn vakhudle_pack(
+    field: u8,
+    g1: u8,
+    g2: u8,
+    g3: u8,
+    g4: u8,
+    g6: u8,
+    xs: &[u8],
+    ys: &[u8],
+    k: usize,
+    means: &[i16],
+    out: &mut [u8],
+) -> i32
+    ensures { λ r. ⌜ Reports (packBlockOutcome (codeOf (parametersOf field g1 g2 g3 g4 g6 k) (now (xs .entry)) (now (ys .entry))) (now (means .entry)) (length (now (out .entry)))) r (now (out .entry)) (now (out .exit)) ⌝ }
+{
+    let parts = parameters(field, g1, g2, g3, g4, g6, k);
+    status(blocks::packing::pack(parts, xs, ys, means, out))
+}
+
+// Unpack.
+#[no_mangle]
+pub extern "C" fn vakhudle_unpack(
+    field: u8,
+    g1: u8,
+    g2: u8,
+    g3: u8,
+    g4: u8,
+    g6: u8,
+    xs: &[u8],
+    ys: &[u8],
+    k: usize,
+    block: &[u8],
+    out: &mut [i16],
+) -> i32
+    ensures { λ r. ⌜ Reports (unpackBlockOutcome (codeOf (parametersOf field g1 g2 g3 g4 g6 k) (now (xs .entry)) (now (ys .entry))) (now (block .entry)) (length (now (out .entry)))) r (now (out .entry)) (now (out .exit)) ⌝ }
+{
+    let parts = parameters(field, g1, g2, g3, g4, g6, k);
+    status(blocks::packing::unpack(parts, xs, ys, block, out))
 }

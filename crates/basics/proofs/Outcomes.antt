@@ -76,6 +76,16 @@ module _ {M : Type 0} where
   counts-check n true e o h = h
   counts-check n false e o h = zero-le
 
+  -- the same, where the bound needs the test
+  pub counts-if : (n : ℕ) (b : Bool) (e : Refusal) (o : Outcome M) → (b ≡ true → counts (answer o) ≤ n) → counts (answer (check b e o)) ≤ n
+  unfolding check answer
+  counts-if n true e o h = h refl
+  counts-if n false e o h = zero-le
+
+  pub counts-counted : (n : ℕ) (k : ℕ) (m : M) → k ≤ n → counts (answer (counted k m)) ≤ n
+  unfolding answer
+  counts-counted n k m h = h
+
   pub counts-accepted : (n : ℕ) (m : M) → counts (answer (accepted m)) ≤ n
   unfolding answer
   counts-accepted n m = zero-le

@@ -1,7 +1,7 @@
 -- The laws of the code test and of the loops over lists.
 mod Answering
-mod Coordinates
+pub mod Coordinates
 mod Injective
 mod Marking
 mod Repeats
-mod Tested
+pub mod Tested

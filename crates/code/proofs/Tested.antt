@@ -1,15 +1,19 @@
 -- An operation that begins with the code test: it goes on where the answer is Done, and else the answer is the operation's own.
 use Prim.{Unit, tt}
-use Prim.Native.Nat.{_≤_}
+use Prim.Native.Nat.{ℕ, _≤_}
 use mathlib.Core.Bool.{Bool, true, false}
 use mathlib.Core.Path.{_≡_, refl, sym, _∙_, ap}
 use mathlib.Core.Logic.{_⊎_, inl, inr}
+use borrow.Author.Tests.{leb-true}
+use lib.Dec.{eqb, leb}
+use lib.ListN.{length}
 use Rattle.basics.specs.declared.Refusal.{Refusal}
 use Rattle.basics.specs.declared.Answer.{Answer}
 use Rattle.basics.specs.declared.Answer.the-variants.{Done, Refused}
-use Rattle.basics.specs.Outcome.{Outcome, refused, accepted, check, answer, left, Meets}
-use Rattle.basics.proofs.Outcomes.{meets-as}
-use Rattle.codewords.specs.Code.{Code, n, checkCode, codeAnswer}
+use Rattle.basics.specs.Outcome.{Outcome, refused, accepted, check, answer, left, counts, Meets}
+use Rattle.basics.proofs.Outcomes.{meets-as, counts-check, counts-if}
+use Rattle.basics.proofs.Lists.{both}
+use Rattle.codewords.specs.Code.{Code, n, rightCount, checkCode, codeAnswer}
 use Rattle.codewords.proofs.Accepted.{check-done, check-refused, accepted-done}
 
 -- a chain of tests before an accepted outcome answers Done, or refuses
@@ -41,3 +45,15 @@ module _ (code : Code) where
         by : Answered (codeAnswer code) → Meets (checkCode code o) r old old
         by (done h) = absurd (d (e ∙ h))
         by (stopped x h) = meets-as (check-refused code h o) (record { answers = e ∙ h; leaves = refl })
+
+    -- what an operation counts, where that is bounded for 288 points at most
+    pub counts-code : (b : ℕ) → (n code ≤ 288 → counts (answer o) ≤ b) → counts (answer (checkCode code o)) ≤ b
+    unfolding rightCount
+    counts-code b h =
+        counts-check b _ _ _ (counts-check b _ _ _ (counts-check b _ _ _ (counts-if b _ _ _
+        (λ t. counts-check b _ _ _ (counts-check b _ _ _ (counts-check b _ _ _ (h (points t))))))))
+      where
+        points : rightCount code ≡ true → n code ≤ 288
+        points t =
+            let u = both (eqb (length (code .xs)) (length (code .ys))) _ t in
+            leb-true (n code) 288 (both (leb 2 (n code)) _ (u .1) .1)

@@ -3,7 +3,9 @@ use mathlib.Core.Path.{_≡_, _∙_}
 use borrow.Author.Needs.{needs}
 use mir.Syntax.{w32}
 use mir.ValLaws.{toZ-ofZ}
-use Rattle.basics.proofs.Outcomes.{counts-check, counts-accepted, report}
+use lib.ListN.{length}
+use Rattle.basics.proofs.Outcomes.{report}
+use Rattle.abi.proofs.Counts.{products-counts}
 use Rattle.abi.proofs.vakhudle_products.Statement.{statement}
 use Rattle.abi.proofs.vakhudle_products.Tie as tie
 
@@ -12,8 +14,8 @@ products-requires c κs = search needs
 
 status-requires : tie.Need-status-requires
 status-requires c κs =
-    rw (c .before .before .products .ensures .answers)
-    (counts-check 65535 _ _ _ (counts-check 65535 _ _ _ (counts-check 65535 _ _ _ (counts-accepted 65535 _))))
+    let s = c .before .before .before .before .before .before .before in
+    rw (c .before .before .products .ensures .answers) (products-counts (s .args .field) (s .args .a .now) (s .args .b .now) (length (s .args .out .now)))
 
 same-length : tie.Need-same-length
 same-length c = search needs

@@ -1,0 +1,58 @@
+-- No operation counts more than 288, so that every answer fits the number that a C export returns.
+use Prim.Native.Nat.{ℕ, _≤_}
+use mathlib.Core.List.{List}
+use native.Mathlib.Omega.{arith}
+use lib.IntN.{ℤ}
+use lib.ListN.{length, take, length-take}
+use Rattle.basics.specs.Lists.{table}
+use Rattle.basics.specs.Outcome.{answer, counts}
+use Rattle.basics.proofs.Outcomes.{counts-check, counts-counted, counts-accepted}
+use Rattle.basics.proofs.Loops.{filter-table-few}
+use Rattle.field.specs.Products.{productsOutcome}
+use Rattle.elliptic.specs.declared.Curve.{Curve}
+use Rattle.field.specs.Galois.{galois}
+use Rattle.elliptic.specs.Curve.{affinePoints}
+use Rattle.codewords.specs.Code.{Code, n}
+use Rattle.curve.specs.Points.{pointsOutcome, listing}
+use Rattle.code.specs.Heard.{heardAt, heardPlaces, heardTested, heardOutcome}
+use Rattle.code.proofs.Tested.{counts-code}
+use Rattle.hours.specs.Means.{meansOutcome}
+use Rattle.blocks.specs.Outcomes.{plainTested, plainOutcome, packTested, packBlockOutcome, unpackTested, unpackBlockOutcome}
+
+-- the largest count that the C interface takes
+abbrev most : ℕ
+most = 65535
+
+pub products-counts : (m : ℕ) (a b : List ℕ) (room : ℕ) → counts (answer (productsOutcome m a b room)) ≤ most
+products-counts m a b room = counts-check most _ _ _ (counts-check most _ _ _ (counts-check most _ _ _ (counts-accepted most _)))
+
+pub points-counts : (m : ℕ) (C : Curve) (xs ys : List ℕ) → counts (answer (pointsOutcome m C xs ys)) ≤ most
+unfolding pointsOutcome
+points-counts m C xs ys =
+    counts-check most _ _ _ (counts-check most _ _ _ (counts-check most _ _ _ (counts-check most _ _ _
+    (counts-counted most (length (take 288 (affinePoints (galois m) C))) _ (rw length-take (omega arith))))))
+
+pub means-counts : (ts : List ℕ) (rs : List ℤ) (first hours : ℕ) → counts (answer (meansOutcome ts rs first hours)) ≤ most
+means-counts ts rs first hours =
+    counts-check most _ _ _ (counts-check most _ _ _ (counts-check most _ _ _ (counts-check most _ _ _ (counts-check most _ _ _ (counts-accepted most _)))))
+
+module _ (code : Code) where
+  pub plain-counts : (f : List ℕ) (room : ℕ) → counts (answer (plainOutcome code f room)) ≤ most
+  plain-counts f room =
+      counts-code code (plainTested code f room) most (λ h. counts-check most _ _ _ (counts-check most _ _ _ (counts-check most _ _ _ (counts-accepted most _))))
+
+  pub pack-counts : (means : List ℤ) (room : ℕ) → counts (answer (packBlockOutcome code means room)) ≤ most
+  pack-counts means room =
+      counts-code code (packTested code means room) most (λ h. counts-check most _ _ _ (counts-check most _ _ _ (counts-check most _ _ _ (counts-accepted most _))))
+
+  pub unpack-counts : (block : List ℕ) (room : ℕ) → counts (answer (unpackBlockOutcome code block room)) ≤ most
+  unpack-counts block room =
+      counts-code code (unpackTested code block room) most
+      (λ h. counts-check most _ _ _ (counts-check most _ _ _ (counts-check most _ _ _ (counts-check most _ _ _ (counts-accepted most _)))))
+
+  pub heard-counts : (mask out : List ℕ) → counts (answer (heardOutcome code mask out)) ≤ most
+  heard-counts mask out =
+      counts-code code (heardTested (n code) mask out) most
+      (λ h.
+      let few : length (heardPlaces mask (n code)) ≤ n code = filter-table-few (heardAt mask) _ (n code) in
+      counts-check most _ _ _ (counts-check most _ _ _ (counts-check most _ _ _ (counts-counted most (length (heardPlaces mask (n code))) _ (omega arith)))))

@@ -1,0 +1,2 @@
+-- What the arguments of a C export stand for.
+pub mod Arguments

@@ -1,0 +1,2 @@
+-- What Plain, Pack and Unpack answer.
+pub mod Outcomes

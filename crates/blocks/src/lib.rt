@@ -1,0 +1,3 @@
+// The operations on one block that need no interpolation.
+pub mod packing;
+pub mod plain;

@@ -1,0 +1,54 @@
+// Plain: from the coefficients of a function to its codeword.
+use basics::Answer;
+use basics::Refusal;
+use code::lists::all_below;
+use code::test::test_code;
+use codewords::Parameters;
+use engine::write::write_word;
+use field::logarithms;
+use field::powers;
+use field::size;
+ghost use mathlib.Core.Path.{_≡_};
+ghost use lib.ListN.{length};
+ghost use Rattle.basics.specs.declared.Answer.the-variants.{Done};
+ghost use Rattle.basics.specs.Outcome.{Meets};
+ghost use Rattle.codewords.specs.Code.{codeOf, codeAnswer};
+ghost use Rattle.blocks.specs.Outcomes.{plainTested, plainOutcome};
+
+// Plain of a code that passed the code test.
+fn plain_tested(
+    code: Parameters,
+    xs: &[u8],
+    ys: &[u8],
+    coefficients: &[u8],
+    out: &mut [u8],
+) -> Answer
+    requires { ⌜ codeAnswer (codeOf code (now xs) (now ys)) ≡ Done ⌝ }
+    ensures { λ r. ⌜ Meets (plainTested (codeOf code (now (xs .entry)) (now (ys .entry))) (now (coefficients .entry)) (length (now (out .entry))))
+        r (now (out .entry)) (now (out .exit)) ⌝ }
+{
+    let m = code.field;
+    if coefficients.len() != code.k {
+        return Answer::Refused(Refusal::Length);
+    }
+    if out.len() != xs.len() {
+        return Answer::Refused(Refusal::Length);
+    }
+    if !all_below(size(m), coefficients) {
+        return Answer::Refused(Refusal::Symbol);
+    }
+    write_word(m, &powers(m), &logarithms(m), xs, ys, coefficients, out);
+    Answer::Done
+}
+
+// The values of the function at the listed points.
+pub fn plain(code: Parameters, xs: &[u8], ys: &[u8], coefficients: &[u8], out: &mut [u8]) -> Answer
+    ensures { λ r. ⌜ Meets (plainOutcome (codeOf code (now (xs .entry)) (now (ys .entry))) (now (coefficients .entry)) (length (now (out .entry))))
+        r (now (out .entry)) (now (out .exit)) ⌝ }
+{
+    let tested = test_code(code, xs, ys);
+    if let Answer::Done = tested {
+        return plain_tested(code, xs, ys, coefficients, out);
+    }
+    tested
+}

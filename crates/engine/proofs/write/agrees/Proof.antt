@@ -1,0 +1,93 @@
+-- The loop's invariant: the first i agree, so the rest decides.
+use mathlib.Core.Path.{_≡_, refl, sym, _∙_}
+use Prim.Native.Nat.{_-_}
+use native.Mathlib.Omega.{arith}
+use mathlib.Core.List.{map}
+use lib.ListN.{length, drop}
+use Rattle.basics.specs.Lists.{same}
+use Rattle.basics.proofs.Loops.{same-fails, same-passes, same-ends}
+use Rattle.field.specs.Galois.{galois}
+use Rattle.elliptic.specs.Pair.{evaluate}
+use Rattle.engine.specs.Places.{pointsOf}
+use Rattle.engine.proofs.Runs.{value-at, values-length}
+use borrow.Author.Needs.{needs}
+use Rattle.engine.proofs.write.agrees.Statement.{statement}
+use Rattle.engine.proofs.write.agrees.Tie as tie
+
+abbrev Inv-loop : tie.InvT-loop
+Inv-loop m powers logs xs ys places symbols f i₀ i =
+    same (drop i (map (evaluate (galois m) f) (pointsOf xs ys places))) (drop i symbols) ≡ same (map (evaluate (galois m) f) (pointsOf xs ys places)) symbols
+
+abbrev μ-loop : tie.MeasureT-loop
+μ-loop m powers logs xs ys places symbols f i₀ i = length places - i
+
+loop-holds : tie.Need-loop-holds Inv-loop μ-loop
+loop-holds c = refl
+
+mul-place : tie.Need-mul-place Inv-loop μ-loop
+mul-place c = search needs
+
+shared-slice-read-place : tie.Need-shared-slice-read-place Inv-loop μ-loop
+shared-slice-read-place c = search needs
+
+point-at-requires : tie.Need-point-at-requires Inv-loop μ-loop
+point-at-requires c κs = c .before .before .before .before .before .before .before .before .pre .1 .0 .is-place (c .before .before .loop .i) (c .before .loop-test .taken)
+
+value-requires : tie.Need-value-requires Inv-loop μ-loop
+value-requires c κs = search needs
+
+shared-slice-read-if1 : tie.Need-shared-slice-read-if1 Inv-loop μ-loop
+shared-slice-read-if1 c = search needs
+
+returns : tie.Need-returns Inv-loop μ-loop
+returns c =
+    let at = c .before .before .before .before .before .before in
+    let s = c .before .before .before .before .before .before .before .before .before .before .before .before in
+    let a = s .args in
+    let t = c .before .before .before .before .before .loop-test .taken in
+    let F = galois (a .m) in
+    same-fails (map (evaluate F (a .f .now)) (pointsOf (a .xs .now) (a .ys .now) (a .places .now))) (a .symbols .now) (at .loop .i) (at .loop .inv) (rw (values-length (a .xs .now) (a .ys .now) (a .places .now) F (a .f .now)) t) (omega (arith, t, s .pre .1 .1))
+    (λ e. c .if1 .taken (sym (value-at (a .xs .now) (a .ys .now) (a .places .now) (at .loop .i) t F (a .f .now) (c .before .before .before .point-at .ensures) (c .before .before .value .ensures)) ∙ e))
+
+add-i : tie.Need-add-i Inv-loop μ-loop
+add-i c = search needs
+
+loop-less : tie.Need-loop-less Inv-loop μ-loop
+loop-less c = search needs
+
+loop-again : tie.Need-loop-again Inv-loop μ-loop
+loop-again c =
+    let at = c .before .before .before .before .before .before in
+    let s = c .before .before .before .before .before .before .before .before .before .before .before .before in
+    let a = s .args in
+    let t = c .before .before .before .before .before .loop-test .taken in
+    let F = galois (a .m) in
+    same-passes (map (evaluate F (a .f .now)) (pointsOf (a .xs .now) (a .ys .now) (a .places .now))) (a .symbols .now) (at .loop .i) (at .loop .inv) (rw (values-length (a .xs .now) (a .ys .now) (a .places .now) F (a .f .now)) t) (omega (arith, t, s .pre .1 .1))
+    (value-at (a .xs .now) (a .ys .now) (a .places .now) (at .loop .i) t F (a .f .now) (c .before .before .before .point-at .ensures) (c .before .before .value .ensures) ∙ c .if1 .left)
+
+returns-2 : tie.Need-returns-2 Inv-loop μ-loop
+returns-2 c =
+    let at = c .before in
+    let s = c .before .before .before .before .before .before .before in
+    let a = s .args in
+    let F = galois (a .m) in
+    let t = c .loop-test .left in
+    same-ends (map (evaluate F (a .f .now)) (pointsOf (a .xs .now) (a .ys .now) (a .places .now))) (a .symbols .now) (at .loop .i) (at .loop .inv) (rw (values-length (a .xs .now) (a .ys .now) (a .places .now) F (a .f .now)) t) (omega (arith, t, s .pre .1 .1))
+
+pub agrees-spec : {M : Type 1} → statement M
+agrees-spec =
+    tie.close
+    (tie.spec
+    Inv-loop
+    μ-loop
+    loop-holds
+    mul-place
+    shared-slice-read-place
+    point-at-requires
+    value-requires
+    shared-slice-read-if1
+    returns
+    add-i
+    loop-less
+    loop-again
+    returns-2)

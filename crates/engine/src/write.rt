@@ -1,0 +1,100 @@
+// What the operations write: the coefficients of a function, and its values.
+use crate::interpolate::point_at;
+use crate::pair::Sizes;
+use crate::pair::extend;
+use crate::slices::value;
+use basics::Place;
+ghost use mathlib.Core.Path.{_≡_};
+ghost use mathlib.Core.Bool.{cond};
+ghost use mathlib.Core.List.{map};
+ghost use Prim.Native.Nat.{_≤_};
+ghost use lib.ListN.{length, take};
+ghost use Rattle.basics.specs.Lists.{same, table};
+ghost use Rattle.field.specs.Galois.{galois};
+ghost use Rattle.field.specs.Tables.{Tables};
+ghost use Rattle.elliptic.specs.Pair.{evaluate, padded};
+ghost use Rattle.engine.specs.Arrays.{Room};
+ghost use Rattle.engine.specs.Places.{valueAt, pointsOf, Within};
+
+// The first n elements of f, to the front of out.
+fn copy(f: &[u8], n: usize, out: &mut [u8])
+    requires { ⌜ (n ≤ length (now f)) × (n ≤ length (now out)) ⌝ }
+    ensures { λ _. ⌜ take n (now (out .exit)) ≡ take n (now (f .entry)) ⌝ }
+{
+    let mut i = 0;
+    while i < n {
+        out[i] = f[i];
+        i += 1;
+    }
+}
+
+// The function that is the first n coefficients of f, with zeros to the length of out.
+pub fn write_function(f: &[u8], n: usize, out: &mut [u8])
+    requires { ⌜ (n ≤ length (now f)) × (n ≤ length (now out)) ⌝ }
+    ensures { λ _. ⌜ now (out .exit) ≡ padded (length (now (out .entry))) (take n (now (f .entry))) ⌝ }
+{
+    copy(f, n, out);
+    let k = out.len();
+    extend(out, n, k);
+}
+
+// L as such a function.
+pub fn write_low(l: &[u8], u: &[u8], n: Sizes, out: &mut [u8])
+    requires { ⌜ Room (now l) (now u) n × (n .low ≤ length (now out)) ⌝ }
+    ensures { λ _. ⌜ now (out .exit) ≡ padded (length (now (out .entry))) (take (n .low) (cond (n .turned) (now (u .entry)) (now (l .entry)))) ⌝ }
+{
+    let turned = n.turned;
+    if turned {
+        write_function(u, n.low, out);
+    } else {
+        write_function(l, n.low, out);
+    }
+}
+
+// The values of f at the points with coordinates xs and ys.
+pub fn write_word(
+    m: u8,
+    powers: &[u8; 255],
+    logs: &[u8; 256],
+    xs: &[u8],
+    ys: &[u8],
+    f: &[u8],
+    out: &mut [u8],
+)
+    requires { ⌜ Tables m (now powers) (now logs) ⌝ }
+    requires { ⌜ (length (now out) ≤ length (now xs)) × (length (now out) ≤ length (now ys)) ⌝ }
+    ensures { λ _. ⌜ now (out .exit) ≡ table (valueAt m (now (xs .entry)) (now (ys .entry)) (now (f .entry))) (length (now (out .entry))) ⌝ }
+{
+    let mut i = 0;
+    while i < out.len() {
+        out[i] = value(m, powers, logs, xs[i], ys[i], f);
+        i += 1;
+    }
+}
+
+// The value of f at every place is the symbol at the same index.
+pub fn agrees(
+    m: u8,
+    powers: &[u8; 255],
+    logs: &[u8; 256],
+    xs: &[u8],
+    ys: &[u8],
+    places: &[u16],
+    symbols: &[u8],
+    f: &[u8],
+) -> bool
+    requires { ⌜ Tables m (now powers) (now logs) ⌝ }
+    requires { ⌜ Within (now xs) (now ys) (now places) (length (now places)) × (length (now symbols) ≡ length (now places)) ⌝ }
+    ensures { λ r. ⌜ r ≡ same (map (evaluate (galois m) (now (f .entry))) (pointsOf (now (xs .entry)) (now (ys .entry)) (now (places .entry)))) (now (symbols .entry)) ⌝ }
+{
+    let mut i = 0;
+    while i < places.len() {
+        let place = places[i];
+        let p = point_at(xs, ys, Place(place));
+        if value(m, powers, logs, p.x, p.y, f) != symbols[i] {
+            return false;
+        }
+        i += 1;
+    }
+    true
+}
