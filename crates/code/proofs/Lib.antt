@@ -1,6 +1,5 @@
 -- The laws of the code test and of the loops over lists.
 mod Answering
-pub mod Coordinates
 mod Injective
 mod Marking
 mod Repeats

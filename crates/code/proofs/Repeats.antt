@@ -18,7 +18,8 @@ use Rattle.codewords.specs.Code.{pointsAt}
 use Rattle.code.specs.Lists.{isBelow}
 use Rattle.code.specs.Points.{isPoint, Pointed}
 use Rattle.code.specs.Slots.{slotAt}
-use Rattle.code.proofs.Coordinates.{length-points-at, get-points-at}
+use Rattle.codewords.proofs.Places.{length-points-at}
+use Rattle.codewords.proofs.Coordinates.{points-get}
 use Rattle.code.proofs.Injective.{slot-same, slot-lt}
 
 -- two lists whose elements are alike index by index
@@ -39,7 +40,7 @@ module _ {m : ℕ} (f : IsField m) {C : Curve} {xs ys : List ℕ} (p : Pointed m
 
   on-at : (i : ℕ) → i < length xs → On (galois m) C (point (getD xs i 0) (getD ys i 0))
   on-at i h =
-      let t = rw (get-points-at xs ys i n h) at (all-get (isPoint (galois m) C) (pointsAt xs ys) (point 0 0) i on (rw (length-points-at xs ys n) h)) in
+      let t = rw (points-get xs ys n i) at (all-get (isPoint (galois m) C) (pointsAt xs ys) (point 0 0) i on (rw (length-points-at xs ys n) h)) in
       let u = both (inField (galois m) (point (getD xs i 0) (getD ys i 0))) _ t in
       on-of (galois m) C _ (u .0) (u .1)
 
@@ -53,5 +54,5 @@ module _ {m : ℕ} (f : IsField m) {C : Curve} {xs ys : List ℕ} (p : Pointed m
       (length-points-at xs ys n ∙ sym (length-table _ (length xs)))
       (λ i j lt k.
       let kx : j < length xs = omega (arith, length-points-at xs ys n) in
-      rw (get-points-at xs ys i n (omega arith), get-points-at xs ys j n kx, getD-table (slotAt (galois m) C xs ys) (length xs) i 0 (omega arith), getD-table (slotAt (galois m) C xs ys) (length xs) j 0 kx)
+      rw (points-get xs ys n i, points-get xs ys n j, getD-table (slotAt (galois m) C xs ys) (length xs) i 0 (omega arith), getD-table (slotAt (galois m) C xs ys) (length xs) j 0 kx)
       (slot-same (galois-field f) C small (on-at i (omega arith)) (on-at j kx))))

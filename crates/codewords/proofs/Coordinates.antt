@@ -13,7 +13,7 @@ use Rattle.codewords.specs.Codewords.{place, pointAt}
 use Rattle.codewords.specs.Computed.{pointsOf}
 use Rattle.codewords.proofs.Places.{length-points-at}
 
-points-get : (xs ys : List ℕ) → length xs ≡ length ys → (i : ℕ) → getD (pointsAt xs ys) i (point 0 0) ≡ point (getD xs i 0) (getD ys i 0)
+pub points-get : (xs ys : List ℕ) → length xs ≡ length ys → (i : ℕ) → getD (pointsAt xs ys) i (point 0 0) ≡ point (getD xs i 0) (getD ys i 0)
 unfolding pointsAt
 points-get [] [] e i = refl
 points-get [] (y ∷ ys) e i = absurd (omega arith)

@@ -12,7 +12,8 @@ use Rattle.elliptic.specs.declared.Point.{Point}
 use Rattle.elliptic.specs.Curve.{point}
 use Rattle.codewords.specs.Code.{pointsAt}
 use Rattle.code.specs.Points.{isPoint}
-use Rattle.code.proofs.Coordinates.{length-points-at, get-points-at}
+use Rattle.codewords.proofs.Places.{length-points-at}
+use Rattle.codewords.proofs.Coordinates.{points-get}
 use borrow.Author.Needs.{needs}
 use Rattle.code.proofs.test.all_on_curve.Statement.{statement}
 use Rattle.code.proofs.test.all_on_curve.Tie as tie
@@ -31,7 +32,7 @@ long c = let s = c .before .before .before in length-points-at _ _ (s .pre .1)
 
 at : (c : tie.At-loop Inv-loop μ-loop) → c .loop .i < length (c .before .before .before .args .xs .now)
     → getD (points c) (c .loop .i) (point 0 0) ≡ point (getD (c .before .before .before .args .xs .now) (c .loop .i) 0) (getD (c .before .before .before .args .ys .now) (c .loop .i) 0)
-at c h = let s = c .before .before .before in get-points-at _ _ (c .loop .i) (s .pre .1) h
+at c h = let s = c .before .before .before in points-get _ _ (s .pre .1) (c .loop .i)
 
 loop-holds : tie.Need-loop-holds Inv-loop μ-loop
 loop-holds c = (omega arith, refl)
