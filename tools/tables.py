@@ -28,6 +28,8 @@ def product(modulus, width, a, b):
 
 def tables(modulus, width, g):
     """255 powers of g, and for each byte the exponent of its remainder."""
+    if width == 0:
+        return [0] * 255, [0] * 256
     powers = [1]
     while len(powers) < 255:
         powers.append(product(modulus, width, powers[-1], g))
@@ -40,22 +42,21 @@ def array(name, typ, xs, doc):
     return f"\n// {doc}.\npub const {name}: [{typ}; {len(xs)}] = [{', '.join(map(str, xs))}];\n"
 
 
-def column(name, xs):
-    """One entry to a line; the comment at the first finds the table."""
-    cells = "".join(f"    {x},{f' // {name}' if i == 0 else ''}\n" for i, x in enumerate(xs))
-    return f"\npub const {name}: [u8; {len(xs)}] = [\n{cells}];\n"
+def table(name, rows, doc):
+    """A row to a field; the comment at its first entry finds it."""
+    mark = lambda m, i: f" // {name} of {m}" if i == 0 else ""
+    cells = "".join("    [\n" + "".join(f"        {x},{mark(m, i)}\n" for i, x in enumerate(row)) + "    ],\n" for m, row in enumerate(rows))
+    return f"\n// {doc}.\npub const {name}: [[u8; {len(rows[0])}]; {len(rows)}] = [\n{cells}];\n"
 
 
 def text():
-    fields = [(m, *tables(*row)) for m, row in enumerate(ROWS) if row[1]]
+    both = [tables(*row) for row in ROWS]
     return (
         "// The fields by field number; numbers 0 and 1 are no fields. Written by tools/tables.py.\n"
         + array("MODULI", "u16", [m for m, _, _ in ROWS], "The moduli")
         + array("WIDTHS", "u8", [w for _, w, _ in ROWS], "The widths of a symbol in bits")
-        + "\n// For each field the generator to the power i at i.\n"
-        + "".join(column(f"POWERS_{m}", powers) for m, powers, _ in fields).lstrip("\n")
-        + f"\n// For each field the exponent at which the generator is the remainder of a at a, or {NONE} where that is 0.\n"
-        + "".join(column(f"LOGARITHMS_{m}", logs) for m, _, logs in fields).lstrip("\n")
+        + table("POWERS", [p for p, _ in both], "The generator to the power i at i")
+        + table("LOGARITHMS", [l for _, l in both], f"The exponent at which the generator is the remainder of a at a, or {NONE} where that is 0")
     )
 
 

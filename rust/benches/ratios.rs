@@ -1,7 +1,9 @@
-//! What each operation costs beside the same job in plain Rust: both sides in one run, the median of many rounds, and the ratio.
+//! What each operation costs beside the same job in plain Rust: both sides in one run, the median of many rounds, and the ratio. Both sides test
+//! the code in every call, and both have been seen to give the same.
 use std::hint::black_box;
 use std::time::Instant;
-use vakhudle::plain::{Field, Random};
+use vakhudle::plain::{curve, fast, Field, Random};
+use vakhudle::{Code, ABSENT, MASK_BYTES, MOST_POINTS};
 
 /// The median time of one call in nanoseconds, for two jobs that take turns.
 fn medians(rounds: usize, calls: usize, mut ours: impl FnMut(), mut plain: impl FnMut()) -> (f64, f64) {
@@ -23,17 +25,38 @@ fn medians(rounds: usize, calls: usize, mut ours: impl FnMut(), mut plain: impl 
 }
 
 fn row(name: &str, unit: f64, (ours, plain): (f64, f64)) {
-    println!("{name:<44} {:>12.2} {:>12.2} {:>8.2}", ours / unit, plain / unit, ours / plain);
+    println!("{name:<52} {:>12.2} {:>12.2} {:>8.2}", ours / unit, plain / unit, ours / plain);
 }
 
-fn main() {
-    println!("{:<44} {:>12} {:>12} {:>8}", "job", "ours (ns)", "plain (ns)", "ratio");
-    let mut random = Random(7);
+/// A row for an operation that fills one buffer. `calls` is how many make a round.
+fn compare<T: Copy + PartialEq>(
+    name: &str,
+    calls: usize,
+    buffer: Vec<T>,
+    ours: impl Fn(&mut [T]) -> vakhudle::Answer,
+    plain: impl Fn(&mut [T]) -> vakhudle::Answer,
+) {
+    let (mut a, mut b) = (buffer.clone(), buffer);
+    assert_eq!(ours(&mut a).expect(name), plain(&mut b).expect(name), "{name}");
+    assert!(a == b, "{name}");
+    let times = medians(
+        201,
+        calls,
+        || {
+            black_box(ours(black_box(&mut a))).unwrap();
+        },
+        || {
+            black_box(plain(black_box(&mut b))).unwrap();
+        },
+    );
+    row(name, 1.0, times);
+}
+
+fn products(random: &mut Random) {
     for number in [6u8, 8] {
         let field = Field::new(number);
         let n = 4096;
-        let mut symbols = || (0..n).map(|_| random.below(field.size() as u64) as u8).collect::<Vec<u8>>();
-        let (a, b) = (symbols(), symbols());
+        let (a, b) = (random.symbols(number, n), random.symbols(number, n));
         let (mut x, mut y) = (vec![0; n], vec![0; n]);
         let times = medians(
             201,
@@ -52,4 +75,98 @@ fn main() {
         );
         row(&format!("a product, field {number}, lists of {n}"), n as f64, times);
     }
+}
+
+/// The operations on codes, at all points of a curve.
+fn codes(field: u8, curve: [u8; 5], k: usize, random: &mut Random) {
+    let (xs, ys): (Vec<u8>, Vec<u8>) = curve::all_points(field, curve).into_iter().unzip();
+    let n = xs.len();
+    let code = Code { field, curve, xs: &xs, ys: &ys, k };
+    let named = |job: &str| format!("{job}, m = {field}, n = {n}, k = {k}");
+
+    compare(
+        &format!("points, m = {field}, {n} of them"),
+        if field == 8 { 1 } else { 10 },
+        vec![0; 2 * MOST_POINTS],
+        |out| {
+            let (xs, ys) = out.split_at_mut(MOST_POINTS);
+            vakhudle::points(black_box(field), black_box(curve), xs, ys)
+        },
+        |out| {
+            let (xs, ys) = out.split_at_mut(MOST_POINTS);
+            fast::points(black_box(field), black_box(curve), xs, ys)
+        },
+    );
+
+    // with an empty mask there is hardly more to do than the code test
+    let mut mask = vec![0u8; MASK_BYTES];
+    let code = || black_box(code);
+    let places = vec![0u16; MOST_POINTS];
+    compare(
+        &named("code test"),
+        50,
+        places.clone(),
+        |out| vakhudle::heard(&code(), black_box(&mask), out),
+        |out| fast::heard(&code(), black_box(&mask), out),
+    );
+
+    let coefficients = random.symbols(field, k);
+    compare(
+        &named("plain"),
+        if field == 8 { 1 } else { 5 },
+        vec![0u8; n],
+        |out| vakhudle::plain(&code(), black_box(&coefficients), out),
+        |out| fast::plain(&code(), black_box(&coefficients), out),
+    );
+
+    // seven places of eight are heard
+    for p in (0..n).filter(|_| !random.once_in(8)) {
+        mask[p / 8] |= 1 << (p % 8);
+    }
+    compare(&named("heard"), 50, places, |out| vakhudle::heard(&code(), black_box(&mask), out), |out| fast::heard(&code(), black_box(&mask), out));
+
+    let hours = k * field as usize / 15;
+    let means: Vec<i16> = (0..hours).map(|_| if random.once_in(10) { ABSENT } else { random.between(-2_000, 20_000) as i16 }).collect();
+    compare(
+        &named(&format!("pack {hours} hours")),
+        50,
+        vec![0u8; k],
+        |out| vakhudle::pack(&code(), black_box(&means), out),
+        |out| fast::pack(&code(), black_box(&means), out),
+    );
+
+    let mut symbols = vec![0; k];
+    fast::pack(&code(), &means, &mut symbols).unwrap();
+    compare(
+        &named(&format!("unpack {hours} hours")),
+        50,
+        vec![0i16; hours],
+        |out| vakhudle::unpack(&code(), black_box(&symbols), out),
+        |out| fast::unpack(&code(), black_box(&symbols), out),
+    );
+}
+
+/// A day of minutes.
+fn means(random: &mut Random) {
+    let first_hour = 500_000;
+    let stamps: Vec<u32> = (0..24 * 60).map(|minute| first_hour * 60 + minute).collect();
+    let readings: Vec<i16> = stamps.iter().map(|_| random.between(-2_000, 20_000) as i16).collect();
+    compare(
+        "means, 1,440 readings, 24 hours",
+        20,
+        vec![0i16; 24],
+        |out| vakhudle::means(black_box(&stamps), black_box(&readings), first_hour, out),
+        |out| fast::means(black_box(&stamps), black_box(&readings), first_hour, out),
+    );
+}
+
+fn main() {
+    println!("{:<52} {:>12} {:>12} {:>8}", "job", "ours (ns)", "plain (ns)", "ratio");
+    let mut random = Random(7);
+    products(&mut random);
+    codes(6, [0, 0, 1, 0, 0], 60, &mut random);
+    // the most points that a curve over 256 elements can have
+    let fullest = (1..=u16::MAX).map(|g| [0, 0, 1, (g >> 8) as u8, g as u8]).find(|&curve| curve::all_points(8, curve).len() == MOST_POINTS);
+    codes(8, fullest.expect("a curve with 288 points"), 200, &mut random);
+    means(&mut random);
 }

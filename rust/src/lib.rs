@@ -1,9 +1,35 @@
 //! Safe wrappers of the proved block coder. `plain` is an independent implementation in plain Rust that tests and benchmarks compare with.
+//!
+//! A refused call changes nothing that it was lent. Places are numbered from 1.
 pub mod plain;
 mod raw;
 
 /// What a call answers: a count (0 where the operation has none), or the number of the refusal.
 pub type Answer = Result<u32, u8>;
+
+/// The length of the buffers that `points` and `heard` fill: no curve over these fields has more affine points.
+pub const MOST_POINTS: usize = 288;
+
+/// The length of the mask that `heard` reads.
+pub const MASK_BYTES: usize = 40;
+
+/// The mean of an hour with too few readings.
+pub const ABSENT: i16 = 32_767;
+
+/// A code: a field of 2^field elements, a curve, a list of points on it, and a dimension. Nothing is tested before a call.
+#[derive(Clone, Copy, Debug)]
+pub struct Code<'a> {
+    /// The field number m, 2 to 8.
+    pub field: u8,
+    /// The coefficients g1, g2, g3, g4, g6.
+    pub curve: [u8; 5],
+    /// The X of each place.
+    pub xs: &'a [u8],
+    /// The Y of each place.
+    pub ys: &'a [u8],
+    /// The dimension.
+    pub k: usize,
+}
 
 fn answer(status: i32) -> Answer {
     if status < 0 {
@@ -13,8 +39,118 @@ fn answer(status: i32) -> Answer {
     }
 }
 
+// SAFETY of every call below: each pointer comes with the length of its slice, and the borrow checker keeps what is written apart from the rest.
+
 /// `out[i] = a[i] * b[i]` in the field.
 pub fn products(field: u8, a: &[u8], b: &[u8], out: &mut [u8]) -> Answer {
-    // SAFETY: each pointer comes with the length of its slice, and the borrow checker keeps `out` apart.
     answer(unsafe { raw::vakhudle_products(field, a.as_ptr(), a.len(), b.as_ptr(), b.len(), out.as_mut_ptr(), out.len()) })
+}
+
+/// Writes the curve's affine points by X, then Y, into two buffers of 288 bytes, and answers their count.
+pub fn points(field: u8, curve: [u8; 5], xs_out: &mut [u8], ys_out: &mut [u8]) -> Answer {
+    let [g1, g2, g3, g4, g6] = curve;
+    answer(unsafe { raw::vakhudle_points(field, g1, g2, g3, g4, g6, xs_out.as_mut_ptr(), xs_out.len(), ys_out.as_mut_ptr(), ys_out.len()) })
+}
+
+/// The n symbols of the function with these k coefficients, which stand in order of weight.
+pub fn plain(code: &Code, coefficients: &[u8], symbols_out: &mut [u8]) -> Answer {
+    let Code { field, curve: [g1, g2, g3, g4, g6], xs, ys, k } = *code;
+    answer(unsafe {
+        raw::vakhudle_plain(
+            field,
+            g1,
+            g2,
+            g3,
+            g4,
+            g6,
+            xs.as_ptr(),
+            xs.len(),
+            ys.as_ptr(),
+            ys.len(),
+            k,
+            coefficients.as_ptr(),
+            coefficients.len(),
+            symbols_out.as_mut_ptr(),
+            symbols_out.len(),
+        )
+    })
+}
+
+/// Writes the heard places, ascending, into a buffer of 288, and answers their count; place p is bit (p − 1) mod 8 of byte (p − 1) div 8.
+pub fn heard(code: &Code, mask: &[u8], places_out: &mut [u16]) -> Answer {
+    let Code { field, curve: [g1, g2, g3, g4, g6], xs, ys, k } = *code;
+    answer(unsafe {
+        raw::vakhudle_heard(
+            field,
+            g1,
+            g2,
+            g3,
+            g4,
+            g6,
+            xs.as_ptr(),
+            xs.len(),
+            ys.as_ptr(),
+            ys.len(),
+            k,
+            mask.as_ptr(),
+            mask.len(),
+            places_out.as_mut_ptr(),
+            places_out.len(),
+        )
+    })
+}
+
+/// The mean of each hour from `first_hour` on, one for each entry of `means_out`: stamps in minutes, readings and means in tenths of a degree.
+pub fn means(stamps: &[u32], readings: &[i16], first_hour: u32, means_out: &mut [i16]) -> Answer {
+    answer(unsafe {
+        raw::vakhudle_means(stamps.as_ptr(), stamps.len(), readings.as_ptr(), readings.len(), first_hour, means_out.as_mut_ptr(), means_out.len())
+    })
+}
+
+/// Packs k·m div 15 means into k symbols.
+pub fn pack(code: &Code, means: &[i16], symbols_out: &mut [u8]) -> Answer {
+    let Code { field, curve: [g1, g2, g3, g4, g6], xs, ys, k } = *code;
+    answer(unsafe {
+        raw::vakhudle_pack(
+            field,
+            g1,
+            g2,
+            g3,
+            g4,
+            g6,
+            xs.as_ptr(),
+            xs.len(),
+            ys.as_ptr(),
+            ys.len(),
+            k,
+            means.as_ptr(),
+            means.len(),
+            symbols_out.as_mut_ptr(),
+            symbols_out.len(),
+        )
+    })
+}
+
+/// The means that were packed into these k symbols.
+pub fn unpack(code: &Code, symbols: &[u8], means_out: &mut [i16]) -> Answer {
+    let Code { field, curve: [g1, g2, g3, g4, g6], xs, ys, k } = *code;
+    answer(unsafe {
+        raw::vakhudle_unpack(
+            field,
+            g1,
+            g2,
+            g3,
+            g4,
+            g6,
+            xs.as_ptr(),
+            xs.len(),
+            ys.as_ptr(),
+            ys.len(),
+            k,
+            symbols.as_ptr(),
+            symbols.len(),
+            means_out.as_mut_ptr(),
+            means_out.len(),
+        )
+    })
 }

@@ -3,7 +3,7 @@ use mathlib.Core.Path.{_≡_, refl, sym, ap, _∙_, subst}
 use mathlib.Core.Bool.{Bool, true, false, _&&_}
 use mathlib.Core.Logic.{⊎-elim}
 use mathlib.Core.List.{List, [], _∷_}
-use Prim.Native.Nat.{ℕ, zero, suc, _+_, _≤_, _<_}
+use Prim.Native.Nat.{ℕ, zero, suc, _+_, _<_}
 use native.Mathlib.Nat.{not-suc-le-zero, le-of-suc-le-suc, add-zero, add-suc, suc-add, eq-or-lt-of-le}
 use native.Mathlib.Omega.{arith}
 use lib.Dec.{T}
@@ -67,10 +67,6 @@ at-number f x d (suc (suc (suc (suc (suc (suc zero)))))) h = refl
 at-number f x d (suc (suc (suc (suc (suc (suc (suc zero))))))) h = refl
 at-number f x d (suc (suc (suc (suc (suc (suc (suc (suc zero)))))))) h = refl
 at-number f x d (suc (suc (suc (suc (suc (suc (suc (suc (suc m))))))))) h = absurd (omega arith)
-
--- a number that is at least n and is not n
-pub above : {m n : ℕ} → n ≤ m → (m ≡ n → ⊥) → suc n ≤ m
-above h k = omega arith
 
 -- a table in the code that holds these, read at i
 pub by-number : {A : Type 0} (f : ℕ → A) (x d : A) {i m : ℕ} → i ≡ m → IsField m → getD (byNumber f x) i d ≡ f m

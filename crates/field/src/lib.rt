@@ -14,21 +14,9 @@ mod tables;
 
 use basics::Answer;
 use basics::Refusal;
-use tables::LOGARITHMS_2;
-use tables::LOGARITHMS_3;
-use tables::LOGARITHMS_4;
-use tables::LOGARITHMS_5;
-use tables::LOGARITHMS_6;
-use tables::LOGARITHMS_7;
-use tables::LOGARITHMS_8;
+use tables::LOGARITHMS;
 use tables::MODULI;
-use tables::POWERS_2;
-use tables::POWERS_3;
-use tables::POWERS_4;
-use tables::POWERS_5;
-use tables::POWERS_6;
-use tables::POWERS_7;
-use tables::POWERS_8;
+use tables::POWERS;
 use tables::WIDTHS;
 
 // What stands for the logarithm of zero.
@@ -74,15 +62,7 @@ pub fn powers(m: u8) -> [u8; 255]
     requires { ⌜ IsField m ⌝ }
     ensures { λ r. ⌜ r ≡ powerTable m ⌝ }
 {
-    match m {
-        2 => POWERS_2,
-        3 => POWERS_3,
-        4 => POWERS_4,
-        5 => POWERS_5,
-        6 => POWERS_6,
-        7 => POWERS_7,
-        _ => POWERS_8,
-    }
+    POWERS[wide(m)]
 }
 
 // The logarithms of all bytes.
@@ -90,15 +70,7 @@ pub fn logarithms(m: u8) -> [u8; 256]
     requires { ⌜ IsField m ⌝ }
     ensures { λ r. ⌜ r ≡ logTable m ⌝ }
 {
-    match m {
-        2 => LOGARITHMS_2,
-        3 => LOGARITHMS_3,
-        4 => LOGARITHMS_4,
-        5 => LOGARITHMS_5,
-        6 => LOGARITHMS_6,
-        7 => LOGARITHMS_7,
-        _ => LOGARITHMS_8,
-    }
+    LOGARITHMS[wide(m)]
 }
 
 pub fn add(a: u8, b: u8) -> u8
