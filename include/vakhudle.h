@@ -58,6 +58,45 @@ int32_t vakhudle_heard(uint8_t field, uint8_t g1, uint8_t g2, uint8_t g3, uint8_
                        const uint8_t *ys, size_t ys_len, size_t k, const uint8_t *mask, size_t mask_len, uint16_t *places_out,
                        size_t places_out_len);
 
+/* The functions from here to vakhudle_rebuild are lent a working space of VAKHUDLE_WORKING_SPACE bytes or more, with any content. After
+ * acceptance that many of its bytes are zero and the rest is untouched; a shorter one is refused as 8. A place p is the p-th point, from 1 on;
+ * the message symbol at index i belongs to the i-th place of its list. */
+#define VAKHUDLE_WORKING_SPACE 8192
+
+/* The k coefficients of the codeword with these n symbols. Refuses code, 8, 11, 14. */
+int32_t vakhudle_recover(uint8_t field, uint8_t g1, uint8_t g2, uint8_t g3, uint8_t g4, uint8_t g6, const uint8_t *xs, size_t xs_len,
+                         const uint8_t *ys, size_t ys_len, size_t k, const uint8_t *symbols, size_t symbols_len, uint8_t *coefficients_out,
+                         size_t coefficients_out_len, uint8_t *work, size_t work_len);
+
+/* The k coefficients of the function whose value at the i-th of k places, in any order, is the i-th symbol of the message. Refuses code, 8, 9,
+ * 10, 11, 12. */
+int32_t vakhudle_systematic_function(uint8_t field, uint8_t g1, uint8_t g2, uint8_t g3, uint8_t g4, uint8_t g6, const uint8_t *xs, size_t xs_len,
+                                     const uint8_t *ys, size_t ys_len, size_t k, const uint16_t *places, size_t places_len,
+                                     const uint8_t *message, size_t message_len, uint8_t *coefficients_out, size_t coefficients_out_len,
+                                     uint8_t *work, size_t work_len);
+
+/* The n symbols of the codeword whose symbol at the i-th of k places, in any order, is the i-th of the message. Refuses code, 8, 9, 10, 11, 12. */
+int32_t vakhudle_systematic_word(uint8_t field, uint8_t g1, uint8_t g2, uint8_t g3, uint8_t g4, uint8_t g6, const uint8_t *xs, size_t xs_len,
+                                 const uint8_t *ys, size_t ys_len, size_t k, const uint16_t *places, size_t places_len, const uint8_t *message,
+                                 size_t message_len, uint8_t *symbols_out, size_t symbols_out_len, uint8_t *work, size_t work_len);
+
+/* The k coefficients of the function with leading coefficient 1 that is zero at all of k dependent places. Refuses code, 8, 9, 10, 15. */
+int32_t vakhudle_relation(uint8_t field, uint8_t g1, uint8_t g2, uint8_t g3, uint8_t g4, uint8_t g6, const uint8_t *xs, size_t xs_len,
+                          const uint8_t *ys, size_t ys_len, size_t k, const uint16_t *places, size_t places_len, uint8_t *coefficients_out,
+                          size_t coefficients_out_len, uint8_t *work, size_t work_len);
+
+/* Of ranked_len places, best first and at most n, the first k that are not dependent, in their order: ranks 1 to k, or ranks 1 to k - 1 and k +
+ * 1. Refuses code, 8, 9, 10, 13, 12 (just k places, and dependent). */
+int32_t vakhudle_pick(uint8_t field, uint8_t g1, uint8_t g2, uint8_t g3, uint8_t g4, uint8_t g6, const uint8_t *xs, size_t xs_len,
+                      const uint8_t *ys, size_t ys_len, size_t k, const uint16_t *ranked, size_t ranked_len, uint16_t *places_out,
+                      size_t places_out_len, uint8_t *work, size_t work_len);
+
+/* The n symbols of the codeword that has these symbols at these places, k to n of them. Refuses code, 8, 9, 10, 11, 13, 12 (just k places, and
+ * dependent), 14. */
+int32_t vakhudle_rebuild(uint8_t field, uint8_t g1, uint8_t g2, uint8_t g3, uint8_t g4, uint8_t g6, const uint8_t *xs, size_t xs_len,
+                         const uint8_t *ys, size_t ys_len, size_t k, const uint16_t *places, size_t places_len, const uint8_t *symbols,
+                         size_t symbols_len, uint8_t *symbols_out, size_t symbols_out_len, uint8_t *work, size_t work_len);
+
 /* The mean of an hour with fewer than 45 readings. */
 #define VAKHUDLE_ABSENT 32767
 

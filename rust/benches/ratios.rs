@@ -1,9 +1,9 @@
-//! What each operation costs beside the same job in plain Rust: both sides in one run, the median of many rounds, and the ratio. Both sides test
-//! the code in every call, and both have been seen to give the same.
+//! What each operation costs beside the same job in plain Rust: both sides in one run, the median of many rounds, the ratio, and its inverse, how
+//! many times as fast ours is. Both sides test the code in every call, and both have been seen to give the same.
 use std::hint::black_box;
 use std::time::Instant;
 use vakhudle::plain::{curve, fast, Field, Random};
-use vakhudle::{Code, ABSENT, MASK_BYTES, MOST_POINTS};
+use vakhudle::{Code, ABSENT, MASK_BYTES, MOST_POINTS, WORKING_SPACE};
 
 /// The median time of one call in nanoseconds, for two jobs that take turns.
 fn medians(rounds: usize, calls: usize, mut ours: impl FnMut(), mut plain: impl FnMut()) -> (f64, f64) {
@@ -25,7 +25,7 @@ fn medians(rounds: usize, calls: usize, mut ours: impl FnMut(), mut plain: impl 
 }
 
 fn row(name: &str, unit: f64, (ours, plain): (f64, f64)) {
-    println!("{name:<52} {:>12.2} {:>12.2} {:>8.2}", ours / unit, plain / unit, ours / plain);
+    println!("{name:<52} {:>12.2} {:>12.2} {:>8.2} {:>14.2}", ours / unit, plain / unit, ours / plain, plain / ours);
 }
 
 /// A row for an operation that fills one buffer. `calls` is how many make a round.
@@ -33,8 +33,8 @@ fn compare<T: Copy + PartialEq>(
     name: &str,
     calls: usize,
     buffer: Vec<T>,
-    ours: impl Fn(&mut [T]) -> vakhudle::Answer,
-    plain: impl Fn(&mut [T]) -> vakhudle::Answer,
+    mut ours: impl FnMut(&mut [T]) -> vakhudle::Answer,
+    mut plain: impl FnMut(&mut [T]) -> vakhudle::Answer,
 ) {
     let (mut a, mut b) = (buffer.clone(), buffer);
     assert_eq!(ours(&mut a).expect(name), plain(&mut b).expect(name), "{name}");
@@ -146,6 +146,50 @@ fn codes(field: u8, curve: [u8; 5], k: usize, random: &mut Random) {
     );
 }
 
+/// The operations on places beside elimination of the k by k system and evaluation with the same tables. What is heard is in no order.
+fn places(field: u8, curve: [u8; 5], k: usize, random: &mut Random) {
+    let (xs, ys): (Vec<u8>, Vec<u8>) = curve::all_points(field, curve).into_iter().unzip();
+    let n = xs.len();
+    let code = Code { field, curve, xs: &xs, ys: &ys, k };
+    let named = |job: &str, bar: u32| format!("{job}, m = {field}, n = {n}, k = {k} (bar: {bar} times)");
+    let calls = if field == 8 { 1 } else { 3 };
+    let (mut work, mut work_too) = (vec![0; WORKING_SPACE], vec![0; WORKING_SPACE]);
+
+    // one more than k is heard, so that there is always a word to rebuild
+    let mut heard: Vec<u16> = (1..=n as u16).collect();
+    random.shuffle(&mut heard);
+    heard.truncate(k + 1);
+    let mut choice = vec![0; k];
+    fast::pick(&code, &heard, &mut choice, &mut work).unwrap();
+    let message = random.symbols(field, k);
+    let code = || black_box(code);
+    compare(
+        &named("systematic word", 4),
+        calls,
+        vec![0u8; n],
+        |out| vakhudle::systematic_word(&code(), black_box(&choice), black_box(&message), out, &mut work),
+        |out| fast::systematic_word(&code(), black_box(&choice), black_box(&message), out, &mut work_too),
+    );
+
+    let mut word = vec![0; n];
+    fast::systematic_word(&code(), &choice, &message, &mut word, &mut work).unwrap();
+    let symbols: Vec<u8> = heard.iter().map(|&p| word[p as usize - 1]).collect();
+    compare(
+        &named("rebuild", 4),
+        calls,
+        vec![0u8; n],
+        |out| vakhudle::rebuild(&code(), black_box(&heard), black_box(&symbols), out, &mut work),
+        |out| fast::rebuild(&code(), black_box(&heard), black_box(&symbols), out, &mut work_too),
+    );
+    compare(
+        &named("pick", 8),
+        calls,
+        vec![0u16; k],
+        |out| vakhudle::pick(&code(), black_box(&heard), out, &mut work),
+        |out| fast::pick(&code(), black_box(&heard), out, &mut work_too),
+    );
+}
+
 /// A day of minutes.
 fn means(random: &mut Random) {
     let first_hour = 500_000;
@@ -161,12 +205,15 @@ fn means(random: &mut Random) {
 }
 
 fn main() {
-    println!("{:<52} {:>12} {:>12} {:>8}", "job", "ours (ns)", "plain (ns)", "ratio");
+    println!("{:<52} {:>12} {:>12} {:>8} {:>14}", "job", "ours (ns)", "plain (ns)", "ratio", "times as fast");
     let mut random = Random(7);
     products(&mut random);
     codes(6, [0, 0, 1, 0, 0], 60, &mut random);
+    places(6, [0, 0, 1, 0, 0], 60, &mut random);
     // the most points that a curve over 256 elements can have
     let fullest = (1..=u16::MAX).map(|g| [0, 0, 1, (g >> 8) as u8, g as u8]).find(|&curve| curve::all_points(8, curve).len() == MOST_POINTS);
-    codes(8, fullest.expect("a curve with 288 points"), 200, &mut random);
+    let fullest = fullest.expect("a curve with 288 points");
+    codes(8, fullest, 200, &mut random);
+    places(8, fullest, 200, &mut random);
     means(&mut random);
 }

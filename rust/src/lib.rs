@@ -13,6 +13,9 @@ pub const MOST_POINTS: usize = 288;
 /// The length of the mask that `heard` reads.
 pub const MASK_BYTES: usize = 40;
 
+/// The least length of the working space that some operations are lent. After acceptance this many bytes of it are zero, and the rest is as it was.
+pub const WORKING_SPACE: usize = 8_192;
+
 /// The mean of an hour with too few readings.
 pub const ABSENT: i16 = 32_767;
 
@@ -96,6 +99,168 @@ pub fn heard(code: &Code, mask: &[u8], places_out: &mut [u16]) -> Answer {
             mask.len(),
             places_out.as_mut_ptr(),
             places_out.len(),
+        )
+    })
+}
+
+/// The k coefficients of the codeword with these n symbols.
+pub fn recover(code: &Code, symbols: &[u8], coefficients_out: &mut [u8], work: &mut [u8]) -> Answer {
+    let Code { field, curve: [g1, g2, g3, g4, g6], xs, ys, k } = *code;
+    answer(unsafe {
+        raw::vakhudle_recover(
+            field,
+            g1,
+            g2,
+            g3,
+            g4,
+            g6,
+            xs.as_ptr(),
+            xs.len(),
+            ys.as_ptr(),
+            ys.len(),
+            k,
+            symbols.as_ptr(),
+            symbols.len(),
+            coefficients_out.as_mut_ptr(),
+            coefficients_out.len(),
+            work.as_mut_ptr(),
+            work.len(),
+        )
+    })
+}
+
+/// The k coefficients of the function whose value at the i-th of k places is the i-th symbol of the message.
+pub fn systematic_function(code: &Code, places: &[u16], message: &[u8], coefficients_out: &mut [u8], work: &mut [u8]) -> Answer {
+    let Code { field, curve: [g1, g2, g3, g4, g6], xs, ys, k } = *code;
+    answer(unsafe {
+        raw::vakhudle_systematic_function(
+            field,
+            g1,
+            g2,
+            g3,
+            g4,
+            g6,
+            xs.as_ptr(),
+            xs.len(),
+            ys.as_ptr(),
+            ys.len(),
+            k,
+            places.as_ptr(),
+            places.len(),
+            message.as_ptr(),
+            message.len(),
+            coefficients_out.as_mut_ptr(),
+            coefficients_out.len(),
+            work.as_mut_ptr(),
+            work.len(),
+        )
+    })
+}
+
+/// The n symbols of the codeword whose symbol at the i-th of k places is the i-th of the message.
+pub fn systematic_word(code: &Code, places: &[u16], message: &[u8], symbols_out: &mut [u8], work: &mut [u8]) -> Answer {
+    let Code { field, curve: [g1, g2, g3, g4, g6], xs, ys, k } = *code;
+    answer(unsafe {
+        raw::vakhudle_systematic_word(
+            field,
+            g1,
+            g2,
+            g3,
+            g4,
+            g6,
+            xs.as_ptr(),
+            xs.len(),
+            ys.as_ptr(),
+            ys.len(),
+            k,
+            places.as_ptr(),
+            places.len(),
+            message.as_ptr(),
+            message.len(),
+            symbols_out.as_mut_ptr(),
+            symbols_out.len(),
+            work.as_mut_ptr(),
+            work.len(),
+        )
+    })
+}
+
+/// The k coefficients of the function with leading coefficient 1 that is zero at all of k dependent places.
+pub fn relation(code: &Code, places: &[u16], coefficients_out: &mut [u8], work: &mut [u8]) -> Answer {
+    let Code { field, curve: [g1, g2, g3, g4, g6], xs, ys, k } = *code;
+    answer(unsafe {
+        raw::vakhudle_relation(
+            field,
+            g1,
+            g2,
+            g3,
+            g4,
+            g6,
+            xs.as_ptr(),
+            xs.len(),
+            ys.as_ptr(),
+            ys.len(),
+            k,
+            places.as_ptr(),
+            places.len(),
+            coefficients_out.as_mut_ptr(),
+            coefficients_out.len(),
+            work.as_mut_ptr(),
+            work.len(),
+        )
+    })
+}
+
+/// Of places ranked best first, the first k that are not dependent: ranks 1 to k, or ranks 1 to k − 1 and k + 1.
+pub fn pick(code: &Code, ranked: &[u16], places_out: &mut [u16], work: &mut [u8]) -> Answer {
+    let Code { field, curve: [g1, g2, g3, g4, g6], xs, ys, k } = *code;
+    answer(unsafe {
+        raw::vakhudle_pick(
+            field,
+            g1,
+            g2,
+            g3,
+            g4,
+            g6,
+            xs.as_ptr(),
+            xs.len(),
+            ys.as_ptr(),
+            ys.len(),
+            k,
+            ranked.as_ptr(),
+            ranked.len(),
+            places_out.as_mut_ptr(),
+            places_out.len(),
+            work.as_mut_ptr(),
+            work.len(),
+        )
+    })
+}
+
+/// The n symbols of the codeword that has these symbols at these places, k or more.
+pub fn rebuild(code: &Code, places: &[u16], symbols: &[u8], symbols_out: &mut [u8], work: &mut [u8]) -> Answer {
+    let Code { field, curve: [g1, g2, g3, g4, g6], xs, ys, k } = *code;
+    answer(unsafe {
+        raw::vakhudle_rebuild(
+            field,
+            g1,
+            g2,
+            g3,
+            g4,
+            g6,
+            xs.as_ptr(),
+            xs.len(),
+            ys.as_ptr(),
+            ys.len(),
+            k,
+            places.as_ptr(),
+            places.len(),
+            symbols.as_ptr(),
+            symbols.len(),
+            symbols_out.as_mut_ptr(),
+            symbols_out.len(),
+            work.as_mut_ptr(),
+            work.len(),
         )
     })
 }

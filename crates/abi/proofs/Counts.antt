@@ -17,6 +17,7 @@ use Rattle.curve.specs.Points.{pointsOutcome, listing}
 use Rattle.code.specs.Heard.{heardAt, heardPlaces, heardTested, heardOutcome}
 use Rattle.code.proofs.Tested.{counts-code}
 use Rattle.hours.specs.Means.{meansOutcome}
+use Rattle.coder.specs.Outcomes.{recoverOutcome, systematicFunctionOutcome, systematicWordOutcome, relationOutcome, pickOutcome, rebuildOutcome}
 use Rattle.blocks.specs.Outcomes.{plainTested, plainOutcome, packTested, packBlockOutcome, unpackTested, unpackBlockOutcome}
 
 -- the largest count that the C interface takes
@@ -56,3 +57,21 @@ module _ (code : Code) where
       (λ h.
       let few : length (heardPlaces mask (n code)) ≤ n code = filter-table-few (heardAt mask) _ (n code) in
       counts-check most _ _ _ (counts-check most _ _ _ (counts-check most _ _ _ (counts-counted most (length (heardPlaces mask (n code))) _ (omega arith)))))
+
+  pub recover-counts : (w out work : List ℕ) → counts (answer (recoverOutcome code w out work)) ≤ most
+  recover-counts w out work = counts-code code _ most (λ h. (counts-check most _ _ _ (counts-check most _ _ _ (counts-check most _ _ _ (counts-check most _ _ _ (counts-check most _ _ _ (counts-accepted most _)))))))
+
+  pub systematic-function-counts : (J msg out work : List ℕ) → counts (answer (systematicFunctionOutcome code J msg out work)) ≤ most
+  systematic-function-counts J msg out work = counts-code code _ most (λ h. (counts-check most _ _ _ (counts-check most _ _ _ (counts-check most _ _ _ (counts-check most _ _ _ (counts-check most _ _ _ (counts-check most _ _ _ (counts-check most _ _ _ (counts-check most _ _ _ (counts-accepted most _))))))))))
+
+  pub systematic-word-counts : (J msg out work : List ℕ) → counts (answer (systematicWordOutcome code J msg out work)) ≤ most
+  systematic-word-counts J msg out work = counts-code code _ most (λ h. (counts-check most _ _ _ (counts-check most _ _ _ (counts-check most _ _ _ (counts-check most _ _ _ (counts-check most _ _ _ (counts-check most _ _ _ (counts-check most _ _ _ (counts-check most _ _ _ (counts-accepted most _))))))))))
+
+  pub relation-counts : (J out work : List ℕ) → counts (answer (relationOutcome code J out work)) ≤ most
+  relation-counts J out work = counts-code code _ most (λ h. (counts-check most _ _ _ (counts-check most _ _ _ (counts-check most _ _ _ (counts-check most _ _ _ (counts-check most _ _ _ (counts-check most _ _ _ (counts-accepted most _))))))))
+
+  pub pick-counts : (ranked out work : List ℕ) → counts (answer (pickOutcome code ranked out work)) ≤ most
+  pick-counts ranked out work = counts-code code _ most (λ h. (counts-check most _ _ _ (counts-check most _ _ _ (counts-check most _ _ _ (counts-check most _ _ _ (counts-check most _ _ _ (counts-check most _ _ _ (counts-check most _ _ _ (counts-accepted most _)))))))))
+
+  pub rebuild-counts : (J us out work : List ℕ) → counts (answer (rebuildOutcome code J us out work)) ≤ most
+  rebuild-counts J us out work = counts-code code _ most (λ h. (counts-check most _ _ _ (counts-check most _ _ _ (counts-check most _ _ _ (counts-check most _ _ _ (counts-check most _ _ _ (counts-check most _ _ _ (counts-check most _ _ _ (counts-check most _ _ _ (counts-check most _ _ _ (counts-check most _ _ _ (counts-accepted most _))))))))))))

@@ -8,6 +8,7 @@ ghost use Rattle.field.specs.Products.{productsOutcome};
 ghost use Rattle.curve.specs.Points.{pointsOutcome};
 ghost use Rattle.code.specs.Heard.{heardOutcome};
 ghost use Rattle.blocks.specs.Outcomes.{plainOutcome, packBlockOutcome, unpackBlockOutcome};
+ghost use Rattle.coder.specs.Outcomes.{recoverOutcome, systematicFunctionOutcome, systematicWordOutcome, relationOutcome, pickOutcome, rebuildOutcome};
 ghost use Rattle.hours.specs.Means.{meansOutcome};
 ghost use Rattle.abi.specs.Arguments.{curveOf, parametersOf};
 use basics::status;
@@ -143,4 +144,153 @@ pub extern "C" fn vakhudle_unpack(
 {
     let parts = parameters(field, g1, g2, g3, g4, g6, k);
     status(blocks::packing::unpack(parts, xs, ys, block, out))
+}
+
+// Recover.
+#[no_mangle]
+pub extern "C" fn vakhudle_recover(
+    field: u8,
+    g1: u8,
+    g2: u8,
+    g3: u8,
+    g4: u8,
+    g6: u8,
+    xs: &[u8],
+    ys: &[u8],
+    k: usize,
+    symbols: &[u8],
+    out: &mut [u8],
+    work: &mut [u8],
+) -> i32
+    ensures { λ r. ⌜ Reports (recoverOutcome (codeOf (parametersOf field g1 g2 g3 g4 g6 k) (now (xs .entry)) (now (ys .entry))) (now (symbols .entry)) (now (out .entry)) (now (work .entry))) r
+        (now (out .entry), now (work .entry)) (now (out .exit), now (work .exit)) ⌝ }
+{
+    let parts = parameters(field, g1, g2, g3, g4, g6, k);
+    status(coder::recover::recover(parts, xs, ys, symbols, out, work))
+}
+
+// Systematic function.
+#[no_mangle]
+pub extern "C" fn vakhudle_systematic_function(
+    field: u8,
+    g1: u8,
+    g2: u8,
+    g3: u8,
+    g4: u8,
+    g6: u8,
+    xs: &[u8],
+    ys: &[u8],
+    k: usize,
+    places: &[u16],
+    message: &[u8],
+    out: &mut [u8],
+    work: &mut [u8],
+) -> i32
+    ensures { λ r. ⌜ Reports (systematicFunctionOutcome (codeOf (parametersOf field g1 g2 g3 g4 g6 k) (now (xs .entry)) (now (ys .entry))) (now (places .entry)) (now (message .entry)) (now (out .entry)) (now (work .entry))) r
+        (now (out .entry), now (work .entry)) (now (out .exit), now (work .exit)) ⌝ }
+{
+    let parts = parameters(field, g1, g2, g3, g4, g6, k);
+    status(coder::systematic_function::systematic_function(
+        parts,
+        xs,
+        ys,
+        places,
+        message,
+        out,
+        work,
+    ))
+}
+
+// Systematic word.
+#[no_mangle]
+pub extern "C" fn vakhudle_systematic_word(
+    field: u8,
+    g1: u8,
+    g2: u8,
+    g3: u8,
+    g4: u8,
+    g6: u8,
+    xs: &[u8],
+    ys: &[u8],
+    k: usize,
+    places: &[u16],
+    message: &[u8],
+    out: &mut [u8],
+    work: &mut [u8],
+) -> i32
+    ensures { λ r. ⌜ Reports (systematicWordOutcome (codeOf (parametersOf field g1 g2 g3 g4 g6 k) (now (xs .entry)) (now (ys .entry))) (now (places .entry)) (now (message .entry)) (now (out .entry)) (now (work .entry))) r
+        (now (out .entry), now (work .entry)) (now (out .exit), now (work .exit)) ⌝ }
+{
+    let parts = parameters(field, g1, g2, g3, g4, g6, k);
+    status(coder::systematic_word::systematic_word(parts, xs, ys, places, message, out, work))
+}
+
+// Relation.
+#[no_mangle]
+pub extern "C" fn vakhudle_relation(
+    field: u8,
+    g1: u8,
+    g2: u8,
+    g3: u8,
+    g4: u8,
+    g6: u8,
+    xs: &[u8],
+    ys: &[u8],
+    k: usize,
+    places: &[u16],
+    out: &mut [u8],
+    work: &mut [u8],
+) -> i32
+    ensures { λ r. ⌜ Reports (relationOutcome (codeOf (parametersOf field g1 g2 g3 g4 g6 k) (now (xs .entry)) (now (ys .entry))) (now (places .entry)) (now (out .entry)) (now (work .entry))) r
+        (now (out .entry), now (work .entry)) (now (out .exit), now (work .exit)) ⌝ }
+{
+    let parts = parameters(field, g1, g2, g3, g4, g6, k);
+    status(coder::relation::relation(parts, xs, ys, places, out, work))
+}
+
+// Pick.
+#[no_mangle]
+pub extern "C" fn vakhudle_pick(
+    field: u8,
+    g1: u8,
+    g2: u8,
+    g3: u8,
+    g4: u8,
+    g6: u8,
+    xs: &[u8],
+    ys: &[u8],
+    k: usize,
+    ranked: &[u16],
+    out: &mut [u16],
+    work: &mut [u8],
+) -> i32
+    ensures { λ r. ⌜ Reports (pickOutcome (codeOf (parametersOf field g1 g2 g3 g4 g6 k) (now (xs .entry)) (now (ys .entry))) (now (ranked .entry)) (now (out .entry)) (now (work .entry))) r
+        (now (out .entry), now (work .entry)) (now (out .exit), now (work .exit)) ⌝ }
+{
+    let parts = parameters(field, g1, g2, g3, g4, g6, k);
+    status(coder::pick::pick(parts, xs, ys, ranked, out, work))
+}
+
+// Rebuild.
+#[no_mangle]
+pub extern "C" fn vakhudle_rebuild(
+    field: u8,
+    g1: u8,
+    g2: u8,
+    g3: u8,
+    g4: u8,
+    g6: u8,
+    xs: &[u8],
+    ys: &[u8],
+    k: usize,
+    places: &[u16],
+    symbols: &[u8],
+    out: &mut [u8],
+    work: &mut [u8],
+) -> i32
+    ensures { λ r. ⌜ Reports (rebuildOutcome (codeOf (parametersOf field g1 g2 g3 g4 g6 k) (now (xs .entry)) (now (ys .entry))) (now (places .entry)) (now (symbols .entry)) (now (out .entry)) (now (work .entry))) r
+        (now (out .entry), now (work .entry)) (now (out .exit), now (work .exit)) ⌝ }
+{
+    let parts = parameters(field, g1, g2, g3, g4, g6, k);
+    status(coder::rebuild::rebuild(parts, xs, ys, places, symbols, out, work))
 }

@@ -1,10 +1,11 @@
-//! The same in plain Rust. `field`, `curve`, `code` and `hours` follow the definitions as simply as they can, for tests to compare with; `fast` is
-//! what one would write for speed, for benchmarks to compare with.
+//! The same in plain Rust. `field`, `curve`, `code`, `places` and `hours` follow the definitions as simply as they can, for tests to compare with;
+//! `fast` is what one would write for speed, for benchmarks to compare with.
 pub mod code;
 pub mod curve;
 pub mod fast;
 pub mod field;
 pub mod hours;
+pub mod places;
 pub mod random;
 
 pub use field::{products, Field};

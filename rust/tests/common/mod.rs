@@ -2,7 +2,7 @@
 #![allow(dead_code)] // no test uses all of it
 use std::fmt::Debug;
 use vakhudle::plain::{curve, Random};
-use vakhudle::{Answer, Code};
+use vakhudle::{Answer, Code, WORKING_SPACE};
 
 pub const FIELDS: std::ops::RangeInclusive<u8> = 2..=8;
 
@@ -42,6 +42,12 @@ pub struct Lent<T> {
 impl<T: Filler> Lent<T> {
     pub fn new(length: usize, random: &mut Random) -> Self {
         let all: Vec<T> = (0..length + 2 * BORDER).map(|_| T::from_bits(random.next())).collect();
+        Lent { before: all.clone(), all }
+    }
+
+    /// The same number everywhere.
+    pub fn filled(length: usize, with: T) -> Self {
+        let all = vec![with; length + 2 * BORDER];
         Lent { before: all.clone(), all }
     }
 
@@ -89,6 +95,39 @@ pub fn agree<T: Filler>(
     assert!(ours.border_is_unchanged(), "the border of a lent slice");
     assert!(answer.is_ok() || ours.is_unchanged(), "a refused call wrote");
     (answer, ours)
+}
+
+/// The same for the operations that are lent a working space, too: its first bytes must be zero after acceptance, the rest as it was. `lengths`
+/// are those of the output and the working space; the proved implementation comes first.
+pub fn agree_with_work<T: Filler, I>(
+    lengths: [usize; 2],
+    random: &mut Random,
+    implementations: &[I],
+    run: impl Fn(&I, &mut [T], &mut [u8]) -> Answer,
+) -> (Answer, Lent<T>) {
+    let out = Lent::new(lengths[0], random);
+    // mostly nowhere zero, so that a byte left as it was shows
+    let work = if random.once_in(4) { Lent::new(lengths[1], random) } else { Lent::filled(lengths[1], random.between(1, 255) as u8) };
+    let mut results = implementations.iter().map(|implementation| {
+        let (mut out, mut work) = (out.clone(), work.clone());
+        let answer = run(implementation, out.slice(), work.slice());
+        (answer, out, work)
+    });
+    let (answer, out, work) = results.next().expect("an implementation");
+    for (i, (other, other_out, other_work)) in results.enumerate() {
+        assert_eq!(answer, other, "answer of version {i}");
+        assert_eq!(out.content(), other_out.content(), "what version {i} writes");
+        assert!(work.is_all_equal(&other_work), "the working space of version {i}");
+    }
+    assert!(out.border_is_unchanged() && work.border_is_unchanged(), "the border of a lent slice");
+    match answer {
+        Err(_) => assert!(out.is_unchanged() && work.is_unchanged(), "a refused call wrote"),
+        Ok(_) => {
+            let (zeros, rest) = work.all[BORDER..].split_at(WORKING_SPACE);
+            assert!(zeros.iter().all(|&b| b == 0) && rest == &work.before[BORDER + WORKING_SPACE..], "the working space");
+        }
+    }
+    (answer, out)
 }
 
 /// A code that owns its points.

@@ -1,0 +1,80 @@
+-- The tests of the lists, and then what is solved for.
+use Prim.{tt}
+use Prim.Native.Nat.{ℕ}
+use mathlib.Core.Path.{_≡_, refl, sym, _∙_}
+use mathlib.Core.Logic.{⊎-elim}
+use native.Mathlib.Omega.{arith}
+use borrow.Author.Tests.{not-true, not-false}
+use Rattle.basics.specs.declared.Answer.the-variants.{Done}
+use Rattle.basics.proofs.Outcomes.{pass, refuse, accept}
+use Rattle.codewords.specs.Code.{codeOf}
+use Rattle.codewords.proofs.Accepted.{accepted-done}
+use Rattle.coder.specs.Stages.{listsAnswer}
+use Rattle.coder.proofs.Chains.{lists-go, lists-stop, posed}
+use borrow.Author.Needs.{needs}
+use Rattle.coder.proofs.prepare.prepare.Statement.{statement}
+use Rattle.coder.proofs.prepare.prepare.Tie as tie
+
+test-lists-requires : tie.Need-test-lists-requires
+test-lists-requires c κs = c .before .before .before .before .before .pre .0
+
+enum-told : tie.Need-enum-told
+enum-told c = search needs
+
+-- the tests were passed
+passed : (c : tie.After-enum-told) → let a = c .before .before .before .before .before .before .before .before .args in listsAnswer (codeOf (a .p) (a .xs .now) (a .ys .now)) (a .places .now) (a .symbols .now) ≡ Done
+passed c = sym (c .before .before .test-lists .ensures) ∙ c .enum-told .given .1
+
+powers-requires : tie.Need-powers-requires
+powers-requires c κs = accepted-done _ (c .before .before .before .before .before .before .before .before .pre .0) .field
+
+logarithms-requires : tie.Need-logarithms-requires
+logarithms-requires c κs = accepted-done _ (c .before .before .before .before .before .before .before .before .before .before .pre .0) .field
+
+solve-requires : tie.Need-solve-requires
+solve-requires c κs =
+    let pre = c .before .before .before .before .before .before .before .before .before .before .before .before .before .pre in (
+      record { field = accepted-done _ (pre .0) .field; is-powers = c .before .before .before .before .powers .ensures; is-logs = c .before .before .logarithms .ensures },
+      (posed _ _ _ (passed (c .before .before .before .before .before)) (pre .0) (pre .1 .0), pre .1 .1),
+    )
+
+same-length : tie.Need-same-length
+same-length c = search needs
+
+returns : tie.Need-returns
+returns c =
+    record {
+      answers = lists-go _ _ _ (passed (c .before .before .before .before .before .before .before .before .before)) _ (refuse _ {old = tt} (sym (c .before .before .before .solve .ensures .free) ∙ not-true _ (c .if1 .taken))) .answers;
+      holds = λ e. let z : _≡_ {A = ℕ} 0 1 = cc in absurd (omega arith);
+    }
+
+same-length-2 : tie.Need-same-length-2
+same-length-2 c = search needs
+
+returns-2 : tie.Need-returns-2
+returns-2 c =
+    let t = not-false _ (c .if1 .left) in
+    record {
+      answers = lists-go _ _ _ (passed (c .before .before .before .before .before .before .before .before .before)) _ (pass _ {old = tt} {new = tt} (sym (c .before .before .before .solve .ensures .free) ∙ t) (accept refl)) .answers;
+      holds = λ e. c .before .before .before .solve .ensures .holds t;
+    }
+
+returns-3 : tie.Need-returns-3
+returns-3 c =
+    let other : c .before .test-lists .result ≡ Done → ⊥ = λ d. ⊎-elim (λ e. omega (arith, e)) (λ e. omega (arith, e)) (rw d at (c .match .keys2)) in
+    record { answers = lists-stop _ _ _ {old = tt} _ (c .before .test-lists .ensures) other .answers; holds = λ d. absurd (other d) }
+
+pub prepare-spec : {M : Type 1} → statement M
+prepare-spec =
+    tie.close
+    (tie.spec
+    test-lists-requires
+    enum-told
+    powers-requires
+    logarithms-requires
+    solve-requires
+    same-length
+    returns
+    same-length-2
+    returns-2
+    returns-3)

@@ -1,0 +1,48 @@
+-- Test after test of the lengths, and then of what the lists hold.
+use borrow.Author.Tests.{eq-eqb, ne-eqb, le-leb, lt-leb}
+use Rattle.basics.proofs.Outcomes.{pass, refuse}
+use Rattle.coder.specs.Outcomes.{room}
+use borrow.Author.Needs.{needs}
+use Rattle.coder.proofs.rebuild.rebuild_tested.Statement.{statement}
+use Rattle.coder.proofs.rebuild.rebuild_tested.Tie as tie
+
+returns : tie.Need-returns
+returns c = refuse _ (lt-leb _ _ (c .if1 .taken))
+
+returns-2 : tie.Need-returns-2
+returns-2 c = pass _ (le-leb _ _ (c .before .if1 .left)) (refuse _ (ne-eqb _ _ (c .if2 .taken)))
+
+returns-3 : tie.Need-returns-3
+returns-3 c = pass _ (le-leb _ _ (c .before .before .if1 .left)) (pass _ (eq-eqb _ _ (c .before .if2 .left)) (refuse _ (ne-eqb _ _ (c .if3 .taken))))
+
+returns-4 : tie.Need-returns-4
+returns-4 c = pass _ (le-leb _ _ (c .before .before .before .if1 .left)) (pass _ (eq-eqb _ _ (c .before .before .if2 .left)) (pass _ (eq-eqb _ _ (c .before .if3 .left)) (refuse _ (lt-leb room _ (c .if4 .taken)))))
+
+slice-aggregate-rebuild-run : tie.Need-slice-aggregate-rebuild-run
+slice-aggregate-rebuild-run c = search needs
+
+rebuild-run-requires : tie.Need-rebuild-run-requires
+rebuild-run-requires c κs = search needs
+
+same-length : tie.Need-same-length
+same-length c = search needs
+
+same-length-2 : tie.Need-same-length-2
+same-length-2 c = search needs
+
+returns-5 : tie.Need-returns-5
+returns-5 c = pass _ (le-leb _ _ (c .before .before .before .before .before .before .before .before .before .before .before .before .if1 .left)) (pass _ (eq-eqb _ _ (c .before .before .before .before .before .before .before .before .before .before .before .if2 .left)) (pass _ (eq-eqb _ _ (c .before .before .before .before .before .before .before .before .before .before .if3 .left)) (pass _ (le-leb room _ (c .before .before .before .before .before .before .before .before .before .if4 .left)) (c .before .before .before .before .before .rebuild-run .ensures))))
+
+pub rebuild-tested-spec : {M : Type 1} → statement M
+rebuild-tested-spec =
+    tie.close
+    (tie.spec
+    returns
+    returns-2
+    returns-3
+    returns-4
+    slice-aggregate-rebuild-run
+    rebuild-run-requires
+    same-length
+    same-length-2
+    returns-5)

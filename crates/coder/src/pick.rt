@@ -1,0 +1,134 @@
+// Pick: of places ranked best first, the first k that work.
+use crate::look::last_index;
+use crate::look::last_zero;
+use crate::work::clear_room;
+use basics::Answer;
+use basics::Refusal;
+use code::lists::all_different;
+use code::lists::all_places;
+use code::test::test_code;
+use codewords::Parameters;
+use field::logarithms;
+use field::powers;
+ghost use mathlib.Core.Path.{_≡_};
+ghost use mathlib.Core.List.{[], _∷_, _++_};
+ghost use Prim.Native.Nat.{_-_, _<_, _≤_};
+ghost use lib.ListN.{length, take, getD};
+ghost use Rattle.basics.specs.Outcome.{Meets};
+ghost use Rattle.basics.specs.declared.Answer.the-variants.{Done};
+ghost use Rattle.field.specs.Tables.{Tables};
+ghost use Rattle.codewords.specs.Code.{codeOf, codeAnswer};
+ghost use Rattle.coder.specs.Given.{Placed};
+ghost use Rattle.coder.specs.Outcomes.{room, pickOutcome};
+ghost use Rattle.coder.specs.Stages.{pickRun, pickPlaced, pickTested};
+
+// The first places, and at the end of `out` the one with the index `last`.
+fn write_picked(ranked: &[u16], last: usize, out: &mut [u16])
+    requires { ⌜ (last < length (now ranked)) × (0 < length (now out)) × (length (now out) ≤ length (now ranked)) ⌝ }
+    ensures { λ _. ⌜ now (out .exit) ≡ take (length (now (out .entry)) - 1) (now (ranked .entry)) ++ getD (now (ranked .entry)) last 0 ∷ [] ⌝ }
+{
+    let end = out.len() - 1;
+    let mut i = 0;
+    while i < end {
+        out[i] = ranked[i];
+        i += 1;
+    }
+    out[end] = ranked[last];
+}
+
+// Pick of different places.
+fn pick_run(
+    p: Parameters,
+    powers: &[u8; 255],
+    logs: &[u8; 256],
+    xs: &[u8],
+    ys: &[u8],
+    ranked: &[u16],
+    out: &mut [u16],
+    work: &mut [u8],
+) -> Answer
+    requires { ⌜ Tables (p .field) (now powers) (now logs) ⌝ }
+    requires { ⌜ Placed (codeOf p (now xs) (now ys)) (now ranked) × (length (now out) ≡ p .k) × (room ≤ length (now work)) ⌝ }
+    ensures { λ r. ⌜ Meets (pickRun (codeOf p (now (xs .entry)) (now (ys .entry))) (now (ranked .entry)) (now (work .entry))) r
+        (now (out .entry), now (work .entry)) (now (out .exit), now (work .exit)) ⌝ }
+{
+    if ranked.len() < p.k {
+        return Answer::Refused(Refusal::TooFew);
+    }
+    let zero = last_zero(p, powers, logs, xs, ys, ranked);
+    let last = last_index(p.k, zero);
+    if last == ranked.len() {
+        return Answer::Refused(Refusal::Dependent);
+    }
+    write_picked(ranked, last, out);
+    clear_room(work);
+    Answer::Done
+}
+
+// Pick of lists that have the right lengths.
+fn pick_placed(
+    p: Parameters,
+    xs: &[u8],
+    ys: &[u8],
+    ranked: &[u16],
+    out: &mut [u16],
+    work: &mut [u8],
+) -> Answer
+    requires { ⌜ codeAnswer (codeOf p (now xs) (now ys)) ≡ Done ⌝ }
+    requires { ⌜ (length (now out) ≡ p .k) × (room ≤ length (now work)) ⌝ }
+    ensures { λ r. ⌜ Meets (pickPlaced (codeOf p (now (xs .entry)) (now (ys .entry))) (now (ranked .entry)) (now (work .entry))) r
+        (now (out .entry), now (work .entry)) (now (out .exit), now (work .exit)) ⌝ }
+{
+    if !all_places(xs.len(), ranked) {
+        return Answer::Refused(Refusal::Place);
+    }
+    if !all_different(ranked) {
+        return Answer::Refused(Refusal::RepeatedPlace);
+    }
+    let m = p.field;
+    pick_run(p, &powers(m), &logarithms(m), xs, ys, ranked, out, work)
+}
+
+// Pick of a code that passed the code test.
+fn pick_tested(
+    p: Parameters,
+    xs: &[u8],
+    ys: &[u8],
+    ranked: &[u16],
+    out: &mut [u16],
+    work: &mut [u8],
+) -> Answer
+    requires { ⌜ codeAnswer (codeOf p (now xs) (now ys)) ≡ Done ⌝ }
+    ensures { λ r. ⌜ Meets (pickTested (codeOf p (now (xs .entry)) (now (ys .entry))) (now (ranked .entry)) (now (out .entry)) (now (work .entry))) r
+        (now (out .entry), now (work .entry)) (now (out .exit), now (work .exit)) ⌝ }
+{
+    if xs.len() < ranked.len() {
+        return Answer::Refused(Refusal::Length);
+    }
+    if out.len() != p.k {
+        return Answer::Refused(Refusal::Length);
+    }
+    if work.len() < 8192 {
+        return Answer::Refused(Refusal::Length);
+    }
+    pick_placed(p, xs, ys, ranked, out, work)
+}
+
+// Of the ranked places the k that are kept.
+pub fn pick(
+    code: Parameters,
+    xs: &[u8],
+    ys: &[u8],
+    ranked: &[u16],
+    out: &mut [u16],
+    work: &mut [u8],
+) -> Answer
+    ensures { λ r. ⌜ Meets (pickOutcome (codeOf code (now (xs .entry)) (now (ys .entry))) (now (ranked .entry)) (now (out .entry)) (now (work .entry))) r
+        (now (out .entry), now (work .entry)) (now (out .exit), now (work .exit)) ⌝ }
+{
+    let tested = test_code(code, xs, ys);
+    if let Answer::Done = tested {
+        return pick_tested(code, xs, ys, ranked, out, work);
+    }
+    tested
+}

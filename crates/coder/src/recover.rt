@@ -1,0 +1,132 @@
+// Recover: the coefficients of a codeword, from all its symbols.
+use crate::prepare::prepare;
+use crate::words::agrees_all;
+use crate::work::clear_room;
+use basics::Answer;
+use basics::Refusal;
+use code::test::test_code;
+use codewords::Parameters;
+use engine::write::write_function;
+ghost use mathlib.Core.Path.{_≡_};
+ghost use Prim.Native.Nat.{_+_, _<_, _≤_};
+ghost use lib.ListN.{length};
+ghost use Rattle.basics.specs.Lists.{table};
+ghost use Rattle.basics.specs.Outcome.{Meets};
+ghost use Rattle.basics.specs.declared.Answer.the-variants.{Done};
+ghost use Rattle.codewords.specs.Code.{codeOf, codeAnswer};
+ghost use Rattle.coder.specs.Outcomes.{room, recoverOutcome};
+ghost use Rattle.coder.specs.Stages.{placeAt, recoverRun, recoverTested};
+
+fn place_at(i: usize) -> u16
+    requires { ⌜ i < 288 ⌝ }
+    ensures { λ r. ⌜ r ≡ placeAt i ⌝ }
+{
+    i as u16 + 1
+}
+
+// All places in their order.
+fn fill_places(places: &mut [u16])
+    requires { ⌜ length (now places) ≤ 288 ⌝ }
+    ensures { λ _. ⌜ now (places .exit) ≡ table placeAt (length (now (places .entry))) ⌝ }
+{
+    let mut i = 0;
+    while i < places.len() {
+        places[i] = place_at(i);
+        i += 1;
+    }
+}
+
+// The tests from number 11 on, and then the result. An array is lent for the function.
+fn recover_run(
+    p: Parameters,
+    xs: &[u8],
+    ys: &[u8],
+    places: &[u16],
+    symbols: &[u8],
+    f: &mut [u8],
+    out: &mut [u8],
+    work: &mut [u8],
+) -> Answer
+    requires { ⌜ codeAnswer (codeOf p (now xs) (now ys)) ≡ Done ⌝ }
+    requires { ⌜ (now places ≡ table placeAt (length (now xs))) × (length (now symbols) ≡ length (now xs)) × (length (now out) ≡ p .k) × (room ≤ length (now work)) × (292 ≤ length (now f)) ⌝ }
+    ensures { λ r. ⌜ Meets (recoverRun (codeOf p (now (xs .entry)) (now (ys .entry))) (now (symbols .entry)) (now (work .entry))) r
+        (now (out .entry), now (work .entry)) (now (out .exit), now (work .exit)) ⌝ }
+{
+    let prepared = prepare(p, xs, ys, places, symbols, f);
+    if let Answer::Done = prepared {
+        if !agrees_all(p, xs, ys, places, symbols, f) {
+            return Answer::Refused(Refusal::NoCodeword);
+        }
+        write_function(f, p.k, out);
+        clear_room(work);
+        return Answer::Done;
+    }
+    prepared
+}
+
+// The same, with an array for the places.
+fn recover_at(
+    p: Parameters,
+    xs: &[u8],
+    ys: &[u8],
+    places: &mut [u16],
+    symbols: &[u8],
+    f: &mut [u8],
+    out: &mut [u8],
+    work: &mut [u8],
+) -> Answer
+    requires { ⌜ codeAnswer (codeOf p (now xs) (now ys)) ≡ Done ⌝ }
+    requires { ⌜ (288 ≤ length (now places)) × (length (now symbols) ≡ length (now xs)) × (length (now out) ≡ p .k) × (room ≤ length (now work)) × (292 ≤ length (now f)) ⌝ }
+    ensures { λ r. ⌜ Meets (recoverRun (codeOf p (now (xs .entry)) (now (ys .entry))) (now (symbols .entry)) (now (work .entry))) r
+        (now (out .entry), now (work .entry)) (now (out .exit), now (work .exit)) ⌝ }
+{
+    let n = xs.len();
+    fill_places(&mut places[..n]);
+    recover_run(p, xs, ys, &places[..n], symbols, f, out, work)
+}
+
+// Recover of a code that passed the code test.
+fn recover_tested(
+    p: Parameters,
+    xs: &[u8],
+    ys: &[u8],
+    symbols: &[u8],
+    out: &mut [u8],
+    work: &mut [u8],
+) -> Answer
+    requires { ⌜ codeAnswer (codeOf p (now xs) (now ys)) ≡ Done ⌝ }
+    ensures { λ r. ⌜ Meets (recoverTested (codeOf p (now (xs .entry)) (now (ys .entry))) (now (symbols .entry)) (now (out .entry)) (now (work .entry))) r
+        (now (out .entry), now (work .entry)) (now (out .exit), now (work .exit)) ⌝ }
+{
+    if symbols.len() != xs.len() {
+        return Answer::Refused(Refusal::Length);
+    }
+    if out.len() != p.k {
+        return Answer::Refused(Refusal::Length);
+    }
+    if work.len() < 8192 {
+        return Answer::Refused(Refusal::Length);
+    }
+    let mut places = [0u16; 288];
+    let mut f = [0u8; 292];
+    recover_at(p, xs, ys, &mut places, symbols, &mut f, out, work)
+}
+
+// The k coefficients of the codeword.
+pub fn recover(
+    code: Parameters,
+    xs: &[u8],
+    ys: &[u8],
+    symbols: &[u8],
+    out: &mut [u8],
+    work: &mut [u8],
+) -> Answer
+    ensures { λ r. ⌜ Meets (recoverOutcome (codeOf code (now (xs .entry)) (now (ys .entry))) (now (symbols .entry)) (now (out .entry)) (now (work .entry))) r
+        (now (out .entry), now (work .entry)) (now (out .exit), now (work .exit)) ⌝ }
+{
+    let tested = test_code(code, xs, ys);
+    if let Answer::Done = tested {
+        return recover_tested(code, xs, ys, symbols, out, work);
+    }
+    tested
+}

@@ -1,0 +1,136 @@
+// Relation: the function with leading coefficient 1 that is zero at k dependent places.
+use crate::look::zero_at;
+use crate::work::clear_room;
+use basics::Answer;
+use basics::Place;
+use basics::Refusal;
+use code::lists::all_different;
+use code::lists::all_places;
+use code::test::test_code;
+use codewords::Parameters;
+use engine::interpolate::run_pair;
+use engine::write::write_low;
+use field::logarithms;
+use field::powers;
+ghost use mathlib.Core.Path.{_≡_};
+ghost use Prim.Native.Nat.{_≤_};
+ghost use lib.ListN.{length};
+ghost use Rattle.basics.specs.Outcome.{Meets};
+ghost use Rattle.basics.specs.declared.Answer.the-variants.{Done};
+ghost use Rattle.field.specs.Tables.{Tables};
+ghost use Rattle.codewords.specs.Code.{codeOf, codeAnswer};
+ghost use Rattle.engine.specs.Arrays.{Long};
+ghost use Rattle.coder.specs.Given.{Placed};
+ghost use Rattle.coder.specs.Outcomes.{room, relationOutcome};
+ghost use Rattle.coder.specs.Stages.{relationRun, relationPlaced, relationTested};
+
+// L of the first k − 1 places is the function if it is zero at the last. Two arrays are lent for the pair.
+fn relation_run(
+    p: Parameters,
+    powers: &[u8; 255],
+    logs: &[u8; 256],
+    xs: &[u8],
+    ys: &[u8],
+    places: &[u16],
+    l: &mut [u8],
+    u: &mut [u8],
+    out: &mut [u8],
+    work: &mut [u8],
+) -> Answer
+    requires { ⌜ Tables (p .field) (now powers) (now logs) ⌝ }
+    requires { ⌜ Placed (codeOf p (now xs) (now ys)) (now places) × Long (now l) (now u) × (length (now places) ≡ p .k) × (length (now out) ≡ p .k) × (room ≤ length (now work)) ⌝ }
+    ensures { λ r. ⌜ Meets (relationRun (codeOf p (now (xs .entry)) (now (ys .entry))) (now (places .entry)) (now (work .entry))) r
+        (now (out .entry), now (work .entry)) (now (out .exit), now (work .exit)) ⌝ }
+{
+    let m = p.field;
+    let last = p.k - 1;
+    let n = run_pair(m, powers, logs, xs, ys, places, last, l, u);
+    let place = places[last];
+    if !zero_at(m, powers, logs, xs, ys, Place(place), l, u, n) {
+        return Answer::Refused(Refusal::Independent);
+    }
+    write_low(l, u, n, out);
+    clear_room(work);
+    Answer::Done
+}
+
+// Relation of lists that have the right lengths.
+fn relation_placed(
+    p: Parameters,
+    xs: &[u8],
+    ys: &[u8],
+    places: &[u16],
+    out: &mut [u8],
+    work: &mut [u8],
+) -> Answer
+    requires { ⌜ codeAnswer (codeOf p (now xs) (now ys)) ≡ Done ⌝ }
+    requires { ⌜ (length (now places) ≡ p .k) × (length (now out) ≡ p .k) × (room ≤ length (now work)) ⌝ }
+    ensures { λ r. ⌜ Meets (relationPlaced (codeOf p (now (xs .entry)) (now (ys .entry))) (now (places .entry)) (now (work .entry))) r
+        (now (out .entry), now (work .entry)) (now (out .exit), now (work .exit)) ⌝ }
+{
+    if !all_places(xs.len(), places) {
+        return Answer::Refused(Refusal::Place);
+    }
+    if !all_different(places) {
+        return Answer::Refused(Refusal::RepeatedPlace);
+    }
+    let m = p.field;
+    let mut l = [0u8; 292];
+    let mut u = [0u8; 292];
+    relation_run(
+        p,
+        &powers(m),
+        &logarithms(m),
+        xs,
+        ys,
+        places,
+        &mut l,
+        &mut u,
+        out,
+        work,
+    )
+}
+
+// Relation of a code that passed the code test.
+fn relation_tested(
+    p: Parameters,
+    xs: &[u8],
+    ys: &[u8],
+    places: &[u16],
+    out: &mut [u8],
+    work: &mut [u8],
+) -> Answer
+    requires { ⌜ codeAnswer (codeOf p (now xs) (now ys)) ≡ Done ⌝ }
+    ensures { λ r. ⌜ Meets (relationTested (codeOf p (now (xs .entry)) (now (ys .entry))) (now (places .entry)) (now (out .entry)) (now (work .entry))) r
+        (now (out .entry), now (work .entry)) (now (out .exit), now (work .exit)) ⌝ }
+{
+    if places.len() != p.k {
+        return Answer::Refused(Refusal::Length);
+    }
+    if out.len() != p.k {
+        return Answer::Refused(Refusal::Length);
+    }
+    if work.len() < 8192 {
+        return Answer::Refused(Refusal::Length);
+    }
+    relation_placed(p, xs, ys, places, out, work)
+}
+
+// The k coefficients of the function that is zero at all k places.
+pub fn relation(
+    code: Parameters,
+    xs: &[u8],
+    ys: &[u8],
+    places: &[u16],
+    out: &mut [u8],
+    work: &mut [u8],
+) -> Answer
+    ensures { λ r. ⌜ Meets (relationOutcome (codeOf code (now (xs .entry)) (now (ys .entry))) (now (places .entry)) (now (out .entry)) (now (work .entry))) r
+        (now (out .entry), now (work .entry)) (now (out .exit), now (work .exit)) ⌝ }
+{
+    let tested = test_code(code, xs, ys);
+    if let Answer::Done = tested {
+        return relation_tested(code, xs, ys, places, out, work);
+    }
+    tested
+}

@@ -1,0 +1,91 @@
+// Systematic function: the function that agrees with a message at k places.
+use crate::prepare::prepare;
+use crate::work::clear_room;
+use basics::Answer;
+use basics::Refusal;
+use code::test::test_code;
+use codewords::Parameters;
+use engine::write::write_function;
+ghost use mathlib.Core.Path.{_≡_};
+ghost use Prim.Native.Nat.{_≤_};
+ghost use lib.ListN.{length};
+ghost use Rattle.basics.specs.Outcome.{Meets};
+ghost use Rattle.basics.specs.declared.Answer.the-variants.{Done};
+ghost use Rattle.codewords.specs.Code.{codeOf, codeAnswer};
+ghost use Rattle.coder.specs.Outcomes.{room, systematicFunctionOutcome};
+ghost use Rattle.coder.specs.Stages.{functionRun, functionTested};
+
+// The tests from number 9 on, and then the result. An array is lent for the function.
+fn systematic_function_run(
+    p: Parameters,
+    xs: &[u8],
+    ys: &[u8],
+    places: &[u16],
+    symbols: &[u8],
+    f: &mut [u8],
+    out: &mut [u8],
+    work: &mut [u8],
+) -> Answer
+    requires { ⌜ codeAnswer (codeOf p (now xs) (now ys)) ≡ Done ⌝ }
+    requires { ⌜ (length (now places) ≡ p .k) × (length (now symbols) ≡ p .k) × (length (now out) ≡ p .k) × (room ≤ length (now work)) × (292 ≤ length (now f)) ⌝ }
+    ensures { λ r. ⌜ Meets (functionRun (codeOf p (now (xs .entry)) (now (ys .entry))) (now (places .entry)) (now (symbols .entry)) (now (work .entry))) r
+        (now (out .entry), now (work .entry)) (now (out .exit), now (work .exit)) ⌝ }
+{
+    let prepared = prepare(p, xs, ys, places, symbols, f);
+    if let Answer::Done = prepared {
+        write_function(f, p.k, out);
+        clear_room(work);
+        return Answer::Done;
+    }
+    prepared
+}
+
+// Systematic function of a code that passed the code test.
+fn systematic_function_tested(
+    p: Parameters,
+    xs: &[u8],
+    ys: &[u8],
+    places: &[u16],
+    symbols: &[u8],
+    out: &mut [u8],
+    work: &mut [u8],
+) -> Answer
+    requires { ⌜ codeAnswer (codeOf p (now xs) (now ys)) ≡ Done ⌝ }
+    ensures { λ r. ⌜ Meets (functionTested (codeOf p (now (xs .entry)) (now (ys .entry))) (now (places .entry)) (now (symbols .entry)) (now (out .entry)) (now (work .entry))) r
+        (now (out .entry), now (work .entry)) (now (out .exit), now (work .exit)) ⌝ }
+{
+    if places.len() != p.k {
+        return Answer::Refused(Refusal::Length);
+    }
+    if symbols.len() != p.k {
+        return Answer::Refused(Refusal::Length);
+    }
+    if out.len() != p.k {
+        return Answer::Refused(Refusal::Length);
+    }
+    if work.len() < 8192 {
+        return Answer::Refused(Refusal::Length);
+    }
+    let mut f = [0u8; 292];
+    systematic_function_run(p, xs, ys, places, symbols, &mut f, out, work)
+}
+
+// The k coefficients of the function that takes the message symbols at the places.
+pub fn systematic_function(
+    code: Parameters,
+    xs: &[u8],
+    ys: &[u8],
+    places: &[u16],
+    symbols: &[u8],
+    out: &mut [u8],
+    work: &mut [u8],
+) -> Answer
+    ensures { λ r. ⌜ Meets (systematicFunctionOutcome (codeOf code (now (xs .entry)) (now (ys .entry))) (now (places .entry)) (now (symbols .entry)) (now (out .entry)) (now (work .entry))) r
+        (now (out .entry), now (work .entry)) (now (out .exit), now (work .exit)) ⌝ }
+{
+    let tested = test_code(code, xs, ys);
+    if let Answer::Done = tested {
+        return systematic_function_tested(code, xs, ys, places, symbols, out, work);
+    }
+    tested
+}
