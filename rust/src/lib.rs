@@ -55,216 +55,6 @@ pub fn points(field: u8, curve: [u8; 5], xs_out: &mut [u8], ys_out: &mut [u8]) -
     answer(unsafe { raw::vakhudle_points(field, g1, g2, g3, g4, g6, xs_out.as_mut_ptr(), xs_out.len(), ys_out.as_mut_ptr(), ys_out.len()) })
 }
 
-/// The n symbols of the function with these k coefficients, which stand in order of weight.
-pub fn plain(code: &Code, coefficients: &[u8], symbols_out: &mut [u8]) -> Answer {
-    let Code { field, curve: [g1, g2, g3, g4, g6], xs, ys, k } = *code;
-    answer(unsafe {
-        raw::vakhudle_plain(
-            field,
-            g1,
-            g2,
-            g3,
-            g4,
-            g6,
-            xs.as_ptr(),
-            xs.len(),
-            ys.as_ptr(),
-            ys.len(),
-            k,
-            coefficients.as_ptr(),
-            coefficients.len(),
-            symbols_out.as_mut_ptr(),
-            symbols_out.len(),
-        )
-    })
-}
-
-/// Writes the heard places, ascending, into a buffer of 288, and answers their count; place p is bit (p − 1) mod 8 of byte (p − 1) div 8.
-pub fn heard(code: &Code, mask: &[u8], places_out: &mut [u16]) -> Answer {
-    let Code { field, curve: [g1, g2, g3, g4, g6], xs, ys, k } = *code;
-    answer(unsafe {
-        raw::vakhudle_heard(
-            field,
-            g1,
-            g2,
-            g3,
-            g4,
-            g6,
-            xs.as_ptr(),
-            xs.len(),
-            ys.as_ptr(),
-            ys.len(),
-            k,
-            mask.as_ptr(),
-            mask.len(),
-            places_out.as_mut_ptr(),
-            places_out.len(),
-        )
-    })
-}
-
-/// The k coefficients of the codeword with these n symbols.
-pub fn recover(code: &Code, symbols: &[u8], coefficients_out: &mut [u8], work: &mut [u8]) -> Answer {
-    let Code { field, curve: [g1, g2, g3, g4, g6], xs, ys, k } = *code;
-    answer(unsafe {
-        raw::vakhudle_recover(
-            field,
-            g1,
-            g2,
-            g3,
-            g4,
-            g6,
-            xs.as_ptr(),
-            xs.len(),
-            ys.as_ptr(),
-            ys.len(),
-            k,
-            symbols.as_ptr(),
-            symbols.len(),
-            coefficients_out.as_mut_ptr(),
-            coefficients_out.len(),
-            work.as_mut_ptr(),
-            work.len(),
-        )
-    })
-}
-
-/// The k coefficients of the function whose value at the i-th of k places is the i-th symbol of the message.
-pub fn systematic_function(code: &Code, places: &[u16], message: &[u8], coefficients_out: &mut [u8], work: &mut [u8]) -> Answer {
-    let Code { field, curve: [g1, g2, g3, g4, g6], xs, ys, k } = *code;
-    answer(unsafe {
-        raw::vakhudle_systematic_function(
-            field,
-            g1,
-            g2,
-            g3,
-            g4,
-            g6,
-            xs.as_ptr(),
-            xs.len(),
-            ys.as_ptr(),
-            ys.len(),
-            k,
-            places.as_ptr(),
-            places.len(),
-            message.as_ptr(),
-            message.len(),
-            coefficients_out.as_mut_ptr(),
-            coefficients_out.len(),
-            work.as_mut_ptr(),
-            work.len(),
-        )
-    })
-}
-
-/// The n symbols of the codeword whose symbol at the i-th of k places is the i-th of the message.
-pub fn systematic_word(code: &Code, places: &[u16], message: &[u8], symbols_out: &mut [u8], work: &mut [u8]) -> Answer {
-    let Code { field, curve: [g1, g2, g3, g4, g6], xs, ys, k } = *code;
-    answer(unsafe {
-        raw::vakhudle_systematic_word(
-            field,
-            g1,
-            g2,
-            g3,
-            g4,
-            g6,
-            xs.as_ptr(),
-            xs.len(),
-            ys.as_ptr(),
-            ys.len(),
-            k,
-            places.as_ptr(),
-            places.len(),
-            message.as_ptr(),
-            message.len(),
-            symbols_out.as_mut_ptr(),
-            symbols_out.len(),
-            work.as_mut_ptr(),
-            work.len(),
-        )
-    })
-}
-
-/// The k coefficients of the function with leading coefficient 1 that is zero at all of k dependent places.
-pub fn relation(code: &Code, places: &[u16], coefficients_out: &mut [u8], work: &mut [u8]) -> Answer {
-    let Code { field, curve: [g1, g2, g3, g4, g6], xs, ys, k } = *code;
-    answer(unsafe {
-        raw::vakhudle_relation(
-            field,
-            g1,
-            g2,
-            g3,
-            g4,
-            g6,
-            xs.as_ptr(),
-            xs.len(),
-            ys.as_ptr(),
-            ys.len(),
-            k,
-            places.as_ptr(),
-            places.len(),
-            coefficients_out.as_mut_ptr(),
-            coefficients_out.len(),
-            work.as_mut_ptr(),
-            work.len(),
-        )
-    })
-}
-
-/// Of places ranked best first, the first k that are not dependent: ranks 1 to k, or ranks 1 to k − 1 and k + 1.
-pub fn pick(code: &Code, ranked: &[u16], places_out: &mut [u16], work: &mut [u8]) -> Answer {
-    let Code { field, curve: [g1, g2, g3, g4, g6], xs, ys, k } = *code;
-    answer(unsafe {
-        raw::vakhudle_pick(
-            field,
-            g1,
-            g2,
-            g3,
-            g4,
-            g6,
-            xs.as_ptr(),
-            xs.len(),
-            ys.as_ptr(),
-            ys.len(),
-            k,
-            ranked.as_ptr(),
-            ranked.len(),
-            places_out.as_mut_ptr(),
-            places_out.len(),
-            work.as_mut_ptr(),
-            work.len(),
-        )
-    })
-}
-
-/// The n symbols of the codeword that has these symbols at these places, k or more.
-pub fn rebuild(code: &Code, places: &[u16], symbols: &[u8], symbols_out: &mut [u8], work: &mut [u8]) -> Answer {
-    let Code { field, curve: [g1, g2, g3, g4, g6], xs, ys, k } = *code;
-    answer(unsafe {
-        raw::vakhudle_rebuild(
-            field,
-            g1,
-            g2,
-            g3,
-            g4,
-            g6,
-            xs.as_ptr(),
-            xs.len(),
-            ys.as_ptr(),
-            ys.len(),
-            k,
-            places.as_ptr(),
-            places.len(),
-            symbols.as_ptr(),
-            symbols.len(),
-            symbols_out.as_mut_ptr(),
-            symbols_out.len(),
-            work.as_mut_ptr(),
-            work.len(),
-        )
-    })
-}
-
 /// The mean of each hour from `first_hour` on, one for each entry of `means_out`: stamps in minutes, readings and means in tenths of a degree.
 pub fn means(stamps: &[u32], readings: &[i16], first_hour: u32, means_out: &mut [i16]) -> Answer {
     answer(unsafe {
@@ -272,50 +62,61 @@ pub fn means(stamps: &[u32], readings: &[i16], first_hour: u32, means_out: &mut 
     })
 }
 
-/// Packs k·m div 15 means into k symbols.
-pub fn pack(code: &Code, means: &[i16], symbols_out: &mut [u8]) -> Answer {
-    let Code { field, curve: [g1, g2, g3, g4, g6], xs, ys, k } = *code;
-    answer(unsafe {
-        raw::vakhudle_pack(
-            field,
-            g1,
-            g2,
-            g3,
-            g4,
-            g6,
-            xs.as_ptr(),
-            xs.len(),
-            ys.as_ptr(),
-            ys.len(),
-            k,
-            means.as_ptr(),
-            means.len(),
-            symbols_out.as_mut_ptr(),
-            symbols_out.len(),
-        )
-    })
+/// Defines operations over a code, each by the lists that it reads and, behind the semicolon, those that it writes.
+macro_rules! over_code {
+    ($($(#[$doc:meta])+ $name:ident = $raw:ident($($input:ident: $read:ty),+; $($output:ident: $written:ty),+);)+) => {$(
+        $(#[$doc])+
+        pub fn $name(code: &Code, $($input: &[$read],)+ $($output: &mut [$written]),+) -> Answer {
+            let Code { field, curve: [g1, g2, g3, g4, g6], xs, ys, k } = *code;
+            answer(unsafe {
+                raw::$raw(
+                    field,
+                    g1,
+                    g2,
+                    g3,
+                    g4,
+                    g6,
+                    xs.as_ptr(),
+                    xs.len(),
+                    ys.as_ptr(),
+                    ys.len(),
+                    k,
+                    $($input.as_ptr(), $input.len(),)+
+                    $($output.as_mut_ptr(), $output.len()),+
+                )
+            })
+        }
+    )+};
 }
 
-/// The means that were packed into these k symbols.
-pub fn unpack(code: &Code, symbols: &[u8], means_out: &mut [i16]) -> Answer {
-    let Code { field, curve: [g1, g2, g3, g4, g6], xs, ys, k } = *code;
-    answer(unsafe {
-        raw::vakhudle_unpack(
-            field,
-            g1,
-            g2,
-            g3,
-            g4,
-            g6,
-            xs.as_ptr(),
-            xs.len(),
-            ys.as_ptr(),
-            ys.len(),
-            k,
-            symbols.as_ptr(),
-            symbols.len(),
-            means_out.as_mut_ptr(),
-            means_out.len(),
-        )
-    })
+over_code! {
+    /// The n symbols of the function with these k coefficients, which stand in order of weight.
+    plain = vakhudle_plain(coefficients: u8; symbols_out: u8);
+
+    /// Writes the heard places, ascending, into a buffer of 288, and answers their count; place p is bit (p − 1) mod 8 of byte (p − 1) div 8.
+    heard = vakhudle_heard(mask: u8; places_out: u16);
+
+    /// The k coefficients of the codeword with these n symbols.
+    recover = vakhudle_recover(symbols: u8; coefficients_out: u8, work: u8);
+
+    /// The k coefficients of the function whose value at the i-th of k places is the i-th symbol of the message.
+    systematic_function = vakhudle_systematic_function(places: u16, message: u8; coefficients_out: u8, work: u8);
+
+    /// The n symbols of the codeword whose symbol at the i-th of k places is the i-th of the message.
+    systematic_word = vakhudle_systematic_word(places: u16, message: u8; symbols_out: u8, work: u8);
+
+    /// The k coefficients of the function with leading coefficient 1 that is zero at all of k dependent places.
+    relation = vakhudle_relation(places: u16; coefficients_out: u8, work: u8);
+
+    /// Of places ranked best first, the first k that are not dependent: ranks 1 to k, or ranks 1 to k − 1 and k + 1.
+    pick = vakhudle_pick(ranked: u16; places_out: u16, work: u8);
+
+    /// The n symbols of the codeword that has these symbols at these places, k or more.
+    rebuild = vakhudle_rebuild(places: u16, symbols: u8; symbols_out: u8, work: u8);
+
+    /// Packs k·m div 15 means into k symbols.
+    pack = vakhudle_pack(means: i16; symbols_out: u8);
+
+    /// The means that were packed into these k symbols.
+    unpack = vakhudle_unpack(symbols: u8; means_out: i16);
 }

@@ -16,42 +16,6 @@ extern "C" {
         ys_out_len: usize,
     ) -> i32;
 
-    pub fn vakhudle_plain(
-        field: u8,
-        g1: u8,
-        g2: u8,
-        g3: u8,
-        g4: u8,
-        g6: u8,
-        xs: *const u8,
-        xs_len: usize,
-        ys: *const u8,
-        ys_len: usize,
-        k: usize,
-        coefficients: *const u8,
-        coefficients_len: usize,
-        symbols_out: *mut u8,
-        symbols_out_len: usize,
-    ) -> i32;
-
-    pub fn vakhudle_heard(
-        field: u8,
-        g1: u8,
-        g2: u8,
-        g3: u8,
-        g4: u8,
-        g6: u8,
-        xs: *const u8,
-        xs_len: usize,
-        ys: *const u8,
-        ys_len: usize,
-        k: usize,
-        mask: *const u8,
-        mask_len: usize,
-        places_out: *mut u16,
-        places_out_len: usize,
-    ) -> i32;
-
     pub fn vakhudle_means(
         stamps: *const u32,
         stamps_len: usize,
@@ -61,166 +25,39 @@ extern "C" {
         means_out: *mut i16,
         means_out_len: usize,
     ) -> i32;
+}
 
-    pub fn vakhudle_pack(
-        field: u8,
-        g1: u8,
-        g2: u8,
-        g3: u8,
-        g4: u8,
-        g6: u8,
-        xs: *const u8,
-        xs_len: usize,
-        ys: *const u8,
-        ys_len: usize,
-        k: usize,
-        means: *const i16,
-        means_len: usize,
-        symbols_out: *mut u8,
-        symbols_out_len: usize,
-    ) -> i32;
+/// Declares operations over a code: each takes the code, and then pointers to lists, each with its length behind it.
+macro_rules! over_code {
+    ($($name:ident($($list:ident: $pointer:ty),+);)+) => {
+        extern "C" {
+            $(pub fn $name(
+                field: u8,
+                g1: u8,
+                g2: u8,
+                g3: u8,
+                g4: u8,
+                g6: u8,
+                xs: *const u8,
+                xs_len: usize,
+                ys: *const u8,
+                ys_len: usize,
+                k: usize,
+                $($list: $pointer, _: usize),+
+            ) -> i32;)+
+        }
+    };
+}
 
-    pub fn vakhudle_unpack(
-        field: u8,
-        g1: u8,
-        g2: u8,
-        g3: u8,
-        g4: u8,
-        g6: u8,
-        xs: *const u8,
-        xs_len: usize,
-        ys: *const u8,
-        ys_len: usize,
-        k: usize,
-        symbols: *const u8,
-        symbols_len: usize,
-        means_out: *mut i16,
-        means_out_len: usize,
-    ) -> i32;
-
-    pub fn vakhudle_recover(
-        field: u8,
-        g1: u8,
-        g2: u8,
-        g3: u8,
-        g4: u8,
-        g6: u8,
-        xs: *const u8,
-        xs_len: usize,
-        ys: *const u8,
-        ys_len: usize,
-        k: usize,
-        symbols: *const u8,
-        symbols_len: usize,
-        coefficients_out: *mut u8,
-        coefficients_out_len: usize,
-        work: *mut u8,
-        work_len: usize,
-    ) -> i32;
-
-    pub fn vakhudle_systematic_function(
-        field: u8,
-        g1: u8,
-        g2: u8,
-        g3: u8,
-        g4: u8,
-        g6: u8,
-        xs: *const u8,
-        xs_len: usize,
-        ys: *const u8,
-        ys_len: usize,
-        k: usize,
-        places: *const u16,
-        places_len: usize,
-        message: *const u8,
-        message_len: usize,
-        coefficients_out: *mut u8,
-        coefficients_out_len: usize,
-        work: *mut u8,
-        work_len: usize,
-    ) -> i32;
-
-    pub fn vakhudle_systematic_word(
-        field: u8,
-        g1: u8,
-        g2: u8,
-        g3: u8,
-        g4: u8,
-        g6: u8,
-        xs: *const u8,
-        xs_len: usize,
-        ys: *const u8,
-        ys_len: usize,
-        k: usize,
-        places: *const u16,
-        places_len: usize,
-        message: *const u8,
-        message_len: usize,
-        symbols_out: *mut u8,
-        symbols_out_len: usize,
-        work: *mut u8,
-        work_len: usize,
-    ) -> i32;
-
-    pub fn vakhudle_relation(
-        field: u8,
-        g1: u8,
-        g2: u8,
-        g3: u8,
-        g4: u8,
-        g6: u8,
-        xs: *const u8,
-        xs_len: usize,
-        ys: *const u8,
-        ys_len: usize,
-        k: usize,
-        places: *const u16,
-        places_len: usize,
-        coefficients_out: *mut u8,
-        coefficients_out_len: usize,
-        work: *mut u8,
-        work_len: usize,
-    ) -> i32;
-
-    pub fn vakhudle_pick(
-        field: u8,
-        g1: u8,
-        g2: u8,
-        g3: u8,
-        g4: u8,
-        g6: u8,
-        xs: *const u8,
-        xs_len: usize,
-        ys: *const u8,
-        ys_len: usize,
-        k: usize,
-        ranked: *const u16,
-        ranked_len: usize,
-        places_out: *mut u16,
-        places_out_len: usize,
-        work: *mut u8,
-        work_len: usize,
-    ) -> i32;
-
-    pub fn vakhudle_rebuild(
-        field: u8,
-        g1: u8,
-        g2: u8,
-        g3: u8,
-        g4: u8,
-        g6: u8,
-        xs: *const u8,
-        xs_len: usize,
-        ys: *const u8,
-        ys_len: usize,
-        k: usize,
-        places: *const u16,
-        places_len: usize,
-        symbols: *const u8,
-        symbols_len: usize,
-        symbols_out: *mut u8,
-        symbols_out_len: usize,
-        work: *mut u8,
-        work_len: usize,
-    ) -> i32;
+over_code! {
+    vakhudle_plain(coefficients: *const u8, symbols_out: *mut u8);
+    vakhudle_heard(mask: *const u8, places_out: *mut u16);
+    vakhudle_recover(symbols: *const u8, coefficients_out: *mut u8, work: *mut u8);
+    vakhudle_systematic_function(places: *const u16, message: *const u8, coefficients_out: *mut u8, work: *mut u8);
+    vakhudle_systematic_word(places: *const u16, message: *const u8, symbols_out: *mut u8, work: *mut u8);
+    vakhudle_relation(places: *const u16, coefficients_out: *mut u8, work: *mut u8);
+    vakhudle_pick(ranked: *const u16, places_out: *mut u16, work: *mut u8);
+    vakhudle_rebuild(places: *const u16, symbols: *const u8, symbols_out: *mut u8, work: *mut u8);
+    vakhudle_pack(means: *const i16, symbols_out: *mut u8);
+    vakhudle_unpack(symbols: *const u8, means_out: *mut i16);
 }
