@@ -9,8 +9,8 @@ use native.Mathlib.Omega.{arith}
 use native.Mathlib.Nat.{not-suc-le-zero, le-of-suc-le-suc, le-trans}
 use borrow.Author.Tests.{eqb-true, eq-eqb, not-true}
 use lib.Dec.{eqb}
-use lib.ListN.{length, getD, take, drop, set, replicate, length-append, length-drop, List·getD-append}
-use lib.Seq.{getD-at, take-at, take-length, length-take-le, length-front, getD-take, ext-getD}
+use lib.ListN.{length, getD, take, drop, replicate, length-append, length-drop, List·getD-append}
+use lib.Seq.{getD-at, take-at, length-take-le, length-front, ext-getD}
 use Rattle.basics.specs.Lists.{all, any, filter, different, table, same, Holds}
 
 -- ---- tests that are joined by &&
@@ -63,11 +63,6 @@ module _ {A : Type 0} where
   all-take p [] (suc i) e = refl
   all-take p (x ∷ l) (suc i) e = both-true (p x) (all p (take i l)) (both-left (p x) (all p l) e) (all-take p l i (both-right (p x) (all p l) e))
 
-  pub all-set : (p : A → Bool) (l : List A) (i : ℕ) (v : A) → all p l ≡ true → p v ≡ true → all p (set l i v) ≡ true
-  all-set p [] i v e h = refl
-  all-set p (x ∷ l) zero v e h = both-true (p v) (all p l) h (both-right (p x) (all p l) e)
-  all-set p (x ∷ l) (suc i) v e h = both-true (p x) (all p (set l i v)) (both-left (p x) (all p l) e) (all-set p l i v (both-right (p x) (all p l) e) h)
-
   pub all-replicate : (p : A → Bool) (n : ℕ) (a : A) → p a ≡ true → all p (replicate n a) ≡ true
   all-replicate p zero a e = refl
   all-replicate p (suc n) a e = rw e (all-replicate p n a e)
@@ -115,27 +110,6 @@ module _ {A : Type 0} where
       go true e = ap (λ (m : List A). x ∷ m) e
       go false e = e
 
-  pub all-filter : (p : A → Bool) (l : List A) → all p (filter p l) ≡ true
-  all-filter p [] = refl
-  all-filter p (x ∷ l) = go (p x) refl (all-filter p l)
-    where
-      go : (b : Bool) → p x ≡ b → all p (filter p l) ≡ true → all p (cond b (x ∷ filter p l) (filter p l)) ≡ true
-      go true q e = both-true (p x) (all p (filter p l)) q e
-      go false q e = e
-
-  -- a test that all pass stays one
-  pub all-kept : (p q : A → Bool) (l : List A) → all q l ≡ true → all q (filter p l) ≡ true
-  all-kept p q [] h = refl
-  all-kept p q (x ∷ l) h = go (p x) (all-kept p q l (both-right (q x) (all q l) h))
-    where
-      go : (b : Bool) → all q (filter p l) ≡ true → all q (cond b (x ∷ filter p l) (filter p l)) ≡ true
-      go true e = both-true (q x) (all q (filter p l)) (both-left (q x) (all q l) h) e
-      go false e = e
-
-  pub filter-all : (p : A → Bool) (l : List A) → all p l ≡ true → filter p l ≡ l
-  filter-all p [] h = refl
-  filter-all p (x ∷ l) h = rw (both-left (p x) (all p l) h, filter-all p l (both-right (p x) (all p l) h))
-
   pub length-filter : (p : A → Bool) (l : List A) → length (filter p l) ≤ length l
   length-filter p [] = omega arith
   length-filter p (x ∷ l) = go (p x) (length-filter p l)
@@ -162,14 +136,6 @@ module _ {A : Type 0} where
       (different s l)
       (all-of (λ b. not (s x b)) l d (λ j k. rw (h 0 (suc j) (omega arith) (omega arith))))
       (different-of s l d (λ i j g k. h (suc i) (suc j) (omega arith) (omega arith)))
-
-  pub different-filter : (s : A → A → Bool) (p : A → Bool) (l : List A) → different s l ≡ true → different s (filter p l) ≡ true
-  different-filter s p [] h = refl
-  different-filter s p (x ∷ l) h = go (p x) (different-filter s p l (both-right (all (λ b. not (s x b)) l) (different s l) h))
-    where
-      go : (b : Bool) → different s (filter p l) ≡ true → different s (cond b (x ∷ filter p l) (filter p l)) ≡ true
-      go true e = both-true (all (λ b. not (s x b)) (filter p l)) (different s (filter p l)) (all-kept p (λ b. not (s x b)) l (both-left (all (λ b. not (s x b)) l) (different s l) h)) e
-      go false e = e
 
   -- ---- lists made by a rule
 
@@ -236,16 +202,6 @@ same-refl (a ∷ l) = both-true (eqb a a) (same l l) (eq-eqb a a refl) (same-ref
 pub eq-same : (l m : List ℕ) → l ≡ m → same l m ≡ true
 eq-same l m e = rw e (same-refl m)
 
-pub same-false : (l m : List ℕ) → same l m ≡ false → l ≡ m → ⊥
-same-false l m e h = false≢true (sym e ∙ eq-same l m h)
-
-pub ne-same : (l m : List ℕ) → (l ≡ m → ⊥) → same l m ≡ false
-ne-same l m h = go (same l m) refl
-  where
-    go : (b : Bool) → same l m ≡ b → same l m ≡ false
-    go false q = q
-    go true q = absurd (h (same-true l m q))
-
 -- ---- parts that were lent
 
 module _ {A : Type 0} where
@@ -270,14 +226,8 @@ module _ {xs : List ℕ} {n : ℕ} {l : List ℕ} (h : Holds xs n l) where
   pub holds-length : length l ≡ n
   holds-length = ap length (sym (h .first)) ∙ length-take-le n xs (h .within)
 
-  pub holds-get : (i : ℕ) → i < n → getD xs i 0 ≡ getD l i 0
-  holds-get i k = sym (getD-take n xs i 0 k) ∙ ap (λ (m : List ℕ). getD m i 0) (h .first)
-
   pub holds-as : {m : List ℕ} → l ≡ m → Holds xs n m
   holds-as e = record { within = h .within; first = h .first ∙ e }
-
-pub holds-whole : (l : List ℕ) → Holds l (length l) l
-holds-whole l = record { within = omega arith; first = take-length l }
 
 -- the first n that were lent, and came back as f
 pub lent : (l e : List ℕ) (n : ℕ) (f : List ℕ) → n ≤ length l → length e ≡ length (take n l) → e ≡ f → Holds (e ++ drop n l) n f

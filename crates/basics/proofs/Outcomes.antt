@@ -43,30 +43,11 @@ module _ {M : Type 0} where
 
   -- ---- what an outcome says to the caller
 
-  -- what is accepted, or counted, has passed the test
+  -- what is accepted has passed the test
   pub passed : {b : Bool} (e : Refusal) {o : Outcome M} {m : M} → check b e o ≡ accepted m → (b ≡ true) × (o ≡ accepted m)
   unfolding check
   passed {b = true} e q = (refl, q)
   passed {b = false} e q = (cc, cc)
-
-  pub passed-count : {b : Bool} (e : Refusal) {o : Outcome M} {n : ℕ} {m : M} → check b e o ≡ counted n m → (b ≡ true) × (o ≡ counted n m)
-  unfolding check
-  passed-count {b = true} e q = (refl, q)
-  passed-count {b = false} e q = (cc, cc)
-
-  pub met-refused : {o : Outcome M} {r : Answer} {old new : M} (e : Refusal) → Meets o r old new → o ≡ refused e → (r ≡ Refused e) × (new ≡ old)
-  unfolding answer left
-  met-refused e m q = (rw q at (m .answers), rw q at (m .leaves))
-
-  pub met-accepted : {o : Outcome M} {r : Answer} {old new : M} (l : M) → Meets o r old new → o ≡ accepted l → (r ≡ Done) × (new ≡ l)
-  unfolding answer left
-  met-accepted l m q = (rw q at (m .answers), rw q at (m .leaves))
-
-  pub met-counted : {o : Outcome M} {r : Answer} {old new : M} (n : ℕ) (l : M) → Meets o r old new → o ≡ counted n l → (r ≡ Counted n) × (new ≡ l)
-  unfolding answer left
-  met-counted n l m q = (rw q at (m .answers), rw q at (m .leaves))
-
-  -- ---- several lists are lent: each is shown by itself
 
   -- ---- as a C export reports it
 
@@ -93,16 +74,11 @@ module _ {M : Type 0} where
   pub report : {o : Outcome M} {a : Answer} {r : ℤ} {old new : M} → Meets o a old new → r ≡ status a → Reports o r old new
   report m e = record { reports = e ∙ ap status (m .answers); leaves = m .leaves }
 
+-- ---- two lists are lent: each is shown by itself
+
 module _ {M₁ M₂ : Type 0} where
   pub accept-pair : {l₁ new₁ : M₁} {l₂ new₂ : M₂} {old : M₁ × M₂} → new₁ ≡ l₁ → new₂ ≡ l₂ → Meets (accepted (l₁, l₂)) Done old (new₁, new₂)
   accept-pair e₁ e₂ = accept (rw (e₁, e₂))
 
   pub count-pair : {n k : ℕ} {l₁ new₁ : M₁} {l₂ new₂ : M₂} {old : M₁ × M₂} → k ≡ n → new₁ ≡ l₁ → new₂ ≡ l₂ → Meets (counted n (l₁, l₂)) (Counted k) old (new₁, new₂)
   count-pair e e₁ e₂ = count e (rw (e₁, e₂))
-
-module _ {M₁ M₂ M₃ : Type 0} where
-  pub accept-triple : {l₁ new₁ : M₁} {l₂ new₂ : M₂} {l₃ new₃ : M₃} {old : M₁ × M₂ × M₃} → new₁ ≡ l₁ → new₂ ≡ l₂ → new₃ ≡ l₃ → Meets (accepted (l₁, l₂, l₃)) Done old (new₁, new₂, new₃)
-  accept-triple e₁ e₂ e₃ = accept (rw (e₁, e₂, e₃))
-
-  pub count-triple : {n k : ℕ} {l₁ new₁ : M₁} {l₂ new₂ : M₂} {l₃ new₃ : M₃} {old : M₁ × M₂ × M₃} → k ≡ n → new₁ ≡ l₁ → new₂ ≡ l₂ → new₃ ≡ l₃ → Meets (counted n (l₁, l₂, l₃)) (Counted k) old (new₁, new₂, new₃)
-  count-triple e e₁ e₂ e₃ = count e (rw (e₁, e₂, e₃))

@@ -19,10 +19,6 @@ natAbs-neg (pos zero) = refl
 natAbs-neg (pos (suc n)) = refl
 natAbs-neg (negsuc n) = refl
 
-pub natAbs-mag : (z : ℤ) → natAbs z ≤ suc (mag z)
-natAbs-mag (pos n) = omega arith
-natAbs-mag (negsuc n) = le-refl (suc n)
-
 pub mag-natAbs : (z : ℤ) → mag z ≤ natAbs z
 mag-natAbs (pos n) = le-refl n
 mag-natAbs (negsuc n) = omega arith
@@ -72,9 +68,6 @@ module _ (w : Width) where
 
   pub added : (x y : ℤ) → natAbs x + natAbs y < 2 ^ hbits w → toZ w (ofZ w (x +ℤ y)) ≡ x +ℤ y
   added x y h = toZ-ofZ w _ (add-fits x y h)
-
-  pub subtracted : (x y : ℤ) → natAbs x + natAbs y < 2 ^ hbits w → toZ w (ofZ w (x -ℤ y)) ≡ x -ℤ y
-  subtracted x y h = toZ-ofZ w _ (sub-fits x y h)
 
   -- the negation of the number that the bits n stand for
   pub negated : (n : ℕ) → n < 2 ^ hbits w → toZ w (ofZ w (pos 0 -ℤ toZ w n)) ≡ negℤ (pos n)

@@ -24,6 +24,7 @@ use Rattle.engine.specs.declared.pair.Lengths.{Lengths}
 use Rattle.engine.specs.Arrays.{Filled}
 use Rattle.engine.specs.Places.{pointOf}
 use Rattle.engine.proofs.States.{filled-as}
+use Rattle.engine.proofs.Runs.{step-word}
 use Rattle.coder.specs.Given.{Placed, Solving}
 use Rattle.coder.proofs.Link.{accepted, are-places, pts, points-same, chosen}
 use Rattle.coder.proofs.Free.{is-free, index-lt}
@@ -53,15 +54,6 @@ padded-holds {k = k} h e w = record { within = w; first = e ∙ ap₂ (λ a n. a
 -- nothing is solved for where there are k dependent places
 pub unsolved : {code : Code} {J : List ℕ} (us f : List ℕ) → not (eqb (length J) (code .k) && dependent code J) ≡ false → Solving code J us f false
 unsolved us f h = record { free = sym h; holds = λ t. let z : _≡_ {A = ℕ} 0 1 = cc in absurd (omega arith) }
-
--- the interpolant of a step where L is not zero
-step-word : (F : Arithmetic) (P : Point) (v : ℕ) (s : State) → (evaluate F (s .low) P ≡ 0 → ⊥) → step F P v s .word ≡ corrected F P v (s .low) (s .word)
-unfolding step stepped
-step-word F P v s z = rw (ne-eqb (evaluate F (s .low) P) 0 z) (go (ltb (length (cancelled F P (s .low) (s .high))) (length (raised F (P .x) (s .low)))))
-  where
-    go : (t : Bool) → held t (raised F (P .x) (s .low)) (cancelled F P (s .low) (s .high)) (corrected F P v (s .low) (s .word)) .word ≡ corrected F P v (s .low) (s .word)
-    go true = refl
-    go false = refl
 
 module _ {code : Code} {J : List ℕ} (p : Placed code J) (us : List ℕ) (s : symbols code us ≡ true) (h : code .k ≤ length J) {z : Bool}
     (e : z ≡ lastZero (arithmetic code) (code .k) (pointsOf code J) us) (inside : cond z (code .k) (code .k - 1) ≡ length J → ⊥) where

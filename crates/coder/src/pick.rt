@@ -1,6 +1,7 @@
 // Pick: of places ranked best first, the first k that work.
 use crate::look::last_index;
 use crate::look::last_zero;
+use crate::work::ROOM;
 use crate::work::clear_room;
 use basics::Answer;
 use basics::Refusal;
@@ -108,7 +109,7 @@ fn pick_tested(
     if out.len() != p.k {
         return Answer::Refused(Refusal::Length);
     }
-    if work.len() < 8192 {
+    if work.len() < ROOM {
         return Answer::Refused(Refusal::Length);
     }
     pick_placed(p, xs, ys, ranked, out, work)

@@ -2,6 +2,7 @@
 use crate::prepare::prepare;
 use crate::words::agrees_all;
 use crate::words::put_word;
+use crate::work::ROOM;
 use crate::work::clear_room;
 use basics::Answer;
 use basics::Refusal;
@@ -67,7 +68,7 @@ fn rebuild_tested(
     if out.len() != xs.len() {
         return Answer::Refused(Refusal::Length);
     }
-    if work.len() < 8192 {
+    if work.len() < ROOM {
         return Answer::Refused(Refusal::Length);
     }
     let mut f = [0u8; 292];

@@ -1,6 +1,7 @@
 // Recover: the coefficients of a codeword, from all its symbols.
 use crate::prepare::prepare;
 use crate::words::agrees_all;
+use crate::work::ROOM;
 use crate::work::clear_room;
 use basics::Answer;
 use basics::Refusal;
@@ -104,7 +105,7 @@ fn recover_tested(
     if out.len() != p.k {
         return Answer::Refused(Refusal::Length);
     }
-    if work.len() < 8192 {
+    if work.len() < ROOM {
         return Answer::Refused(Refusal::Length);
     }
     let mut places = [0u16; 288];

@@ -1,5 +1,6 @@
 // Relation: the function with leading coefficient 1 that is zero at k dependent places.
 use crate::look::zero_at;
+use crate::work::ROOM;
 use crate::work::clear_room;
 use basics::Answer;
 use basics::Place;
@@ -110,7 +111,7 @@ fn relation_tested(
     if out.len() != p.k {
         return Answer::Refused(Refusal::Length);
     }
-    if work.len() < 8192 {
+    if work.len() < ROOM {
         return Answer::Refused(Refusal::Length);
     }
     relation_placed(p, xs, ys, places, out, work)

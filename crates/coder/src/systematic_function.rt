@@ -1,5 +1,6 @@
 // Systematic function: the function that agrees with a message at k places.
 use crate::prepare::prepare;
+use crate::work::ROOM;
 use crate::work::clear_room;
 use basics::Answer;
 use basics::Refusal;
@@ -63,7 +64,7 @@ fn systematic_function_tested(
     if out.len() != p.k {
         return Answer::Refused(Refusal::Length);
     }
-    if work.len() < 8192 {
+    if work.len() < ROOM {
         return Answer::Refused(Refusal::Length);
     }
     let mut f = [0u8; 292];

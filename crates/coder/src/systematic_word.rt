@@ -1,6 +1,7 @@
 // Systematic word: the codeword that agrees with a message at k places.
 use crate::prepare::prepare;
 use crate::words::put_word;
+use crate::work::ROOM;
 use crate::work::clear_room;
 use basics::Answer;
 use basics::Refusal;
@@ -63,7 +64,7 @@ fn systematic_word_tested(
     if out.len() != xs.len() {
         return Answer::Refused(Refusal::Length);
     }
-    if work.len() < 8192 {
+    if work.len() < ROOM {
         return Answer::Refused(Refusal::Length);
     }
     let mut f = [0u8; 292];

@@ -101,10 +101,6 @@ module _ (code : Code) where
       let (dimension, h₇) = passed Dimension h₆ in
       record { field = field; coefficients = coefficients; smooth = smooth; count = count; on = on; distinct = distinct; dimension = dimension }
 
-  pub done-passed : Passed code → codeAnswer code ≡ Done
-  unfolding codeAnswer check answer
-  done-passed t = rw (t .field, t .coefficients, t .smooth, t .count, t .on, t .distinct, t .dimension)
-
 -- ---- what the tests say
 
 points-distinct : (J : List Point) → different samePoint J ≡ true → Distinct J

@@ -1,5 +1,5 @@
 -- The points of a code by their coordinates, as the operations read them from the two lists.
-use Prim.Native.Nat.{ℕ, zero, suc, _-_, _<_}
+use Prim.Native.Nat.{ℕ, zero, suc, _-_}
 use mathlib.Core.Path.{_≡_, refl, _∙_, ap}
 use mathlib.Core.List.{List, [], _∷_, map}
 use native.Mathlib.Omega.{arith}
@@ -10,7 +10,6 @@ use Rattle.elliptic.specs.Curve.{point}
 use Rattle.elliptic.specs.Pair.{evaluate}
 use Rattle.codewords.specs.Code.{Code, arithmetic, n, points, pointsAt}
 use Rattle.codewords.specs.Codewords.{place, pointAt}
-use Rattle.codewords.specs.Computed.{pointsOf}
 use Rattle.codewords.proofs.Places.{length-points-at}
 
 pub points-get : (xs ys : List ℕ) → length xs ≡ length ys → (i : ℕ) → getD (pointsAt xs ys) i (point 0 0) ≡ point (getD xs i 0) (getD ys i 0)
@@ -26,10 +25,6 @@ module _ (code : Code) (e : length (code .xs) ≡ length (code .ys)) where
   pub point-at : (p : ℕ) → pointAt code (place p) ≡ point (getD (code .xs) (p - 1) 0) (getD (code .ys) (p - 1) 0)
   unfolding pointAt
   point-at p = points-get (code .xs) (code .ys) e (p - 1)
-
-  pub chosen-point : (J : List ℕ) (i : ℕ) → i < length J
-      → getD (pointsOf code J) i (point 0 0) ≡ point (getD (code .xs) (getD J i 0 - 1) 0) (getD (code .ys) (getD J i 0 - 1) 0)
-  chosen-point J i h = getD-map-in (λ p. pointAt code (place p)) J i 0 (point 0 0) h ∙ point-at (getD J i 0)
 
   -- all values of a function, as a loop over the coordinates fills them in
   pub values-table : (f : List ℕ) → map (evaluate (arithmetic code) f) (points code)

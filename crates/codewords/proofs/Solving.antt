@@ -30,15 +30,6 @@ use Rattle.codewords.proofs.Taking.{length-snoc}
 use Rattle.codewords.proofs.Picking.{all-join, places-left}
 use Rattle.codewords.proofs.Ranks.{more-claim}
 
--- where L is not zero at the k-th point, it is the interpolant of the first k points
-pub solved-after : (F : Arithmetic) (k : ℕ) → 1 ≤ k → (pts : List Point) (us : List ℕ) → lastZero F k pts us ≡ false
-    → solved F k pts us ≡ padded k (after F pts us k .word)
-unfolding solved lastIndex after
-solved-after F k h pts us z =
-    let e : suc (k - 1) ≡ k = omega arith in
-    ap (λ b. let i = cond b k (k - 1) in padded k (step F (getD pts i (point 0 0)) (getD us i 0) (after F pts us (k - 1)) .word)) z
-    ∙ ap (λ m. padded k (after F pts us m .word)) e
-
 -- the first c of a list and one more
 abbrev with-index : {A : Type 0} → ℕ → A → ℕ → List A → List A
 with-index c d i l = take c l ++ getD l i d ∷ []

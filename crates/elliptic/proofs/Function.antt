@@ -10,7 +10,6 @@ use Rattle.field.specs.Field.{Arithmetic, Field}
 use Rattle.field.proofs.Field.{ring, zero-lt, inv-cancel}
 use Rattle.elliptic.specs.Curve.{Point, point}
 use Rattle.elliptic.specs.Pair.{horner, evaluate, addScaled}
-use Rattle.elliptic.proofs.Points.{All, All.nil, All.cons}
 
 module _ (F : Arithmetic) where
   infixl 70 _·_
@@ -120,17 +119,6 @@ module _ {F : Arithmetic} (K : Field F) where
   unfolding slope
   slope-lt none x = zero-lt K
   slope-lt (more h u) x = horner-lt u x .1
-
-  pub symbols-under : {f : List ℕ} → All (λ c. c < q) f → Coefficients F (length f) f
-  symbols-under h = record { under = go h; size = refl }
-    where
-      go : {f : List ℕ} → All (λ c. c < q) f → Under F (length f) f
-      go nil = none
-      go (cons h hs) = more h (go hs)
-
-  pub under-symbols : {n : ℕ} {f : List ℕ} → Under F n f → All (λ c. c < q) f
-  under-symbols none = nil
-  under-symbols (more h u) = cons h (under-symbols u)
 
   pub under-le : {m n : ℕ} {f : List ℕ} → m ≤ n → Under F m f → Under F n f
   under-le h none = none

@@ -1,7 +1,7 @@
 -- Lists of points: what holds of every point, points that differ, points of a curve, and a point taken out of the list.
 use Prim.Native.Nat.{ℕ, zero, suc, _<_, _≤_, suc-le-suc}
-use mathlib.Core.Path.{_≡_, refl, sym, _∙_, ap}
-use mathlib.Core.Bool.{Bool, true, false, cond}
+use mathlib.Core.Path.{_≡_, refl, sym, ap}
+use mathlib.Core.Bool.{true}
 use mathlib.Core.Logic.{_⊎_, inl, inr}
 use mathlib.Core.List.{List, [], _∷_}
 use native.Mathlib.Nat.{le-of-suc-le-suc}
@@ -9,10 +9,10 @@ use native.Mathlib.Omega.{arith}
 use native.Mathlib.Decide.{ℕ-discrete}
 use lib.Dec.{ltb}
 use lib.ListN.{length, getD, take}
-use borrow.Author.Tests.{ltb-true, eqb-true, eq-eqb}
-use Rattle.basics.proofs.Lists.{both, both-true}
+use borrow.Author.Tests.{ltb-true, eqb-true}
+use Rattle.basics.proofs.Lists.{both}
 use Rattle.field.specs.Field.{Arithmetic}
-use Rattle.elliptic.specs.Curve.{Curve, Point, samePoint, inField, left, right, onCurve}
+use Rattle.elliptic.specs.Curve.{Curve, Point, inField, left, right, onCurve}
 
 -- a point of the curve, with coordinates in the field
 pub record On (F : Arithmetic) (C : Curve) (P : Point) : Type 0 where
@@ -67,11 +67,6 @@ distinct-take zero d = nil
 distinct-take (suc n) nil = nil
 distinct-take (suc n) (cons h hs) = cons (all-take n h) (distinct-take n hs)
 
-pub distinct-of : (d : Point) (J : List Point) → ((i j : ℕ) → i < j → j < length J → Differ (getD J i d) (getD J j d)) → Distinct J
-distinct-of d [] h = nil
-distinct-of d (P ∷ J) h =
-    cons (all-of d J (λ j k. h 0 (suc j) (omega arith) (suc-le-suc k))) (distinct-of d J (λ i j k m. h (suc i) (suc j) (suc-le-suc k) (suc-le-suc m)))
-
 -- different points of a curve
 pub record Points (F : Arithmetic) (C : Curve) (J : List Point) : Type 0 where
   pub distinct : Distinct J
@@ -85,12 +80,6 @@ points-take n p = record { distinct = distinct-take n (p .distinct); on = all-ta
 pub on-of : (F : Arithmetic) (C : Curve) (P : Point) → inField F P ≡ true → onCurve F C P ≡ true → On F C P
 unfolding onCurve
 on-of F C P h e = let (a, b) = both (ltb (P .x) (F .q)) (ltb (P .y) (F .q)) h in record { x-lt = ltb-true _ _ a; y-lt = ltb-true _ _ b; eqn = eqb-true _ _ e }
-
-pub differ-of : (P Q : Point) → samePoint P Q ≡ false → Differ P Q
-differ-of P Q h e f = let z : _≡_ {A = Bool} true false = sym (both-true _ _ (eq-eqb (P .x) (Q .x) e) (eq-eqb (P .y) (Q .y) f)) ∙ h in different-bools z
-  where
-    different-bools : _≡_ {A = Bool} true false → ⊥
-    different-bools z = let n : _≡_ {A = ℕ} 0 1 = ap (λ b. cond b 0 1) z in omega arith
 
 -- ---- a point taken out
 

@@ -1,14 +1,14 @@
 -- A run over a list of places: its points, one more of them, and that every run over different points of a curve has room.
 use Prim.Native.Nat.{ℕ, _+_, _<_, _≤_}
 use mathlib.Core.Path.{_≡_, refl, sym, _∙_, ap}
-use mathlib.Core.Bool.{Bool, true, false, cond, _&&_}
+use mathlib.Core.Bool.{Bool, true, false, _&&_}
 use mathlib.Core.List.{List, map}
 use native.Mathlib.Numerals.{add-one}
 use native.Mathlib.Omega.{arith}
-use borrow.Author.Tests.{ltb-true, leb-true}
+use borrow.Author.Tests.{leb-true, ne-eqb}
 use lib.Dec.{ltb, leb}
-use lib.ListN.{length, getD, take, length-map}
-use Rattle.basics.specs.Lists.{all, Holds}
+use lib.ListN.{length, getD, length-map}
+use Rattle.basics.specs.Lists.{all}
 use Rattle.basics.proofs.Lists.{all-get, both-left, both-right, getD-map-in}
 use Rattle.field.specs.Field.{Arithmetic}
 use Rattle.field.specs.Galois.{IsField, galois, size}
@@ -17,11 +17,11 @@ use Rattle.elliptic.specs.declared.Point.{Point}
 use Rattle.elliptic.specs.declared.Curve.{Curve}
 use Rattle.elliptic.specs.Curve.{point}
 use Rattle.elliptic.specs.Pair.{State, evaluate, raised, held, cancelled, corrected, stepped, step, after}
-use Rattle.elliptic.proofs.Points.{Points, All, all-of}
+use Rattle.elliptic.proofs.Points.{Points, All}
 use Rattle.elliptic.proofs.Steps as steps
 use Rattle.engine.specs.Arrays.{Sizes, Lengths, Pair, Filled, Small, pairIn, stateIn}
 use Rattle.engine.specs.Places.{pointOf, pointsOf, IsPlace, Within, Runs}
-use Rattle.engine.proofs.States.{step-other, pair-more, in-state, filled-as}
+use Rattle.engine.proofs.States.{pair-more, in-state, filled-as}
 
 module _ (xs ys places : List ℕ) (i : ℕ) (h : i < length places) where
   pub point-at : getD (pointsOf xs ys places) i (point 0 0) ≡ pointOf xs ys (getD places i 0)
@@ -50,30 +50,14 @@ module _ (xs ys places : List ℕ) (i : ℕ) (h : i < length places) where
 pub values-length : (xs ys places : List ℕ) (F : Arithmetic) (f : List ℕ) → length (map (evaluate F f) (pointsOf xs ys places)) ≡ length places
 values-length xs ys places F f = length-map (pointsOf xs ys places) (evaluate F f) ∙ length-map places (pointOf xs ys)
 
-stepped-word : (F : Arithmetic) (P : Point) (v : ℕ) (s : State) → stepped F P v s .word ≡ corrected F P v (s .low) (s .word)
-unfolding stepped
-stepped-word F P v s = go (ltb (length (cancelled F P (s .low) (s .high))) (length (raised F (P .x) (s .low))))
+-- where L is not zero, the interpolant gains a multiple of L
+pub step-word : (F : Arithmetic) (P : Point) (v : ℕ) (s : State) → (evaluate F (s .low) P ≡ 0 → ⊥) → step F P v s .word ≡ corrected F P v (s .low) (s .word)
+unfolding step stepped
+step-word F P v s z = rw (ne-eqb (evaluate F (s .low) P) 0 z) (go (ltb (length (cancelled F P (s .low) (s .high))) (length (raised F (P .x) (s .low)))))
   where
     go : (t : Bool) → held t (raised F (P .x) (s .low)) (cancelled F P (s .low) (s .high)) (corrected F P v (s .low) (s .word)) .word ≡ corrected F P v (s .low) (s .word)
     go true = refl
     go false = refl
-
-module _ (F : Arithmetic) (points : List Point) (symbols : List ℕ) (i : ℕ) where
-  abbrev P : Point
-  P = getD points i (point 0 0)
-
-  -- the last place, where L is not zero
-  pub after-last : (evaluate F (after F points symbols i .low) P ≡ 0 → ⊥)
-      → after F points symbols (i + 1) .word ≡ corrected F P (getD symbols i 0) (after F points symbols i .low) (after F points symbols i .word)
-  unfolding after
-  after-last z =
-      let s = after F points symbols i in
-      rw add-one (ap (λ t. t .word) (sym (step-other F P (getD symbols i 0) s refl z)) ∙ stepped-word F P (getD symbols i 0) s)
-
-  -- the correction by L is the interpolant of one place more
-  pub finished : {a b f g : List ℕ} {n : Lengths} {r : ℕ} → Filled a b f n (after F points symbols i) → (evaluate F (after F points symbols i .low) P ≡ 0 → ⊥)
-      → Holds g r (corrected F P (getD symbols i 0) (take (n .pair .low) (cond (n .pair .turned) b a)) (take (n .word) f)) → Holds g r (after F points symbols (i + 1) .word)
-  finished p z h = rw (after-last z, ← p .pair .low .first, ← p .word .first) h
 
 -- the functions of up to 287 places have room
 sizes-small : {F : Arithmetic} {i : ℕ} {s : State} → i ≤ 287 → steps.Sizes F i s → Small s
@@ -95,10 +79,6 @@ within-all {xs} {ys} {places} count e h k = record { enough = k; is-place = is-p
         let p = getD places i 0 in
         let t = all-get (λ p. leb 1 p && leb p (length xs)) places 0 i h (omega arith) in
         record { one = leb-true 1 p (both-left (leb 1 p) (leb p (length xs)) t); most = leb-true p (length xs) (both-right (leb 1 p) (leb p (length xs)) t); coordinates = e }
-
--- symbols that the code tested
-pub below-all : {q : ℕ} {l : List ℕ} → all (λ v. ltb v q) l ≡ true → All (λ v. v < q) l
-below-all {q} {l} h = all-of 0 l (λ i k. ltb-true (getD l i 0) q (all-get (λ v. ltb v q) l 0 i h k))
 
 -- runs over different points of a curve
 module _ {m : ℕ} (f : IsField m) {C : Curve} (xs ys places : List ℕ) {symbols : List ℕ} (p : Points (galois m) C (pointsOf xs ys places)) (s : All (λ v. v < size m) symbols) where

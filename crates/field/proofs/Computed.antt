@@ -7,7 +7,7 @@ use Prim.Native.Nat.{ℕ, zero, suc, _+_, _<_}
 use native.Mathlib.Nat.{not-suc-le-zero, le-of-suc-le-suc, add-zero, add-suc, suc-add, eq-or-lt-of-le}
 use native.Mathlib.Omega.{arith}
 use lib.Dec.{T}
-use lib.ListN.{length, getD}
+use lib.ListN.{getD}
 use Rattle.field.specs.Galois.{IsField}
 use Rattle.field.specs.Tables.{iterate, tabulate}
 
@@ -28,11 +28,6 @@ below f (suc n) t k h =
     ⊎-elim (λ e. subst (λ x. T (f x)) (sym e) (t′ .0)) (λ l. below f n (t′ .1) k l) (eq-or-lt-of-le (le-of-suc-le-suc h))
 
 -- ---- lists by a rule
-
-pub length-iterate : (f : ℕ → ℕ) (x n : ℕ) → length (iterate f x n) ≡ n
-unfolding iterate
-length-iterate f x zero = refl
-length-iterate f x (suc n) = ap suc (length-iterate f (f x) n)
 
 -- the terms of a sequence s that f goes through
 pub iterate-at : (f s : ℕ → ℕ) → ((i : ℕ) → s (suc i) ≡ f (s i))
