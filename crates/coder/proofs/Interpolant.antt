@@ -4,6 +4,7 @@ use mathlib.Core.Path.{_≡_, refl, sym, _∙_, ap, ap₂}
 use mathlib.Core.Bool.{Bool, true, false, not, cond, _&&_}
 use mathlib.Core.List.{List, [], _∷_, _++_}
 use native.Mathlib.Nat.{le-of-suc-le-suc}
+use native.Mathlib.Decide.{decLt}
 use native.Mathlib.Omega.{arith}
 use borrow.Author.Tests.{eqb-true, eqb-false, ne-eqb}
 use lib.Dec.{eqb, ltb}
@@ -14,6 +15,7 @@ use Rattle.field.specs.Field.{Arithmetic}
 use Rattle.elliptic.specs.declared.Point.{Point}
 use Rattle.elliptic.specs.Curve.{point}
 use Rattle.elliptic.specs.Pair.{State, evaluate, addScaled, raised, held, cancelled, corrected, padded, stepped, step, after}
+use Rattle.elliptic.proofs.Function.{length-add, length-add-longer}
 use Rattle.elliptic.proofs.Steps as steps
 use Rattle.codewords.specs.Code.{Code, arithmetic}
 use Rattle.codewords.specs.Codewords.{symbols, dependent}
@@ -34,19 +36,15 @@ take-most zero l = omega arith
 take-most (suc n) [] = omega arith
 take-most (suc n) (a ∷ l) = omega (arith, take-most n l)
 
--- no sum of multiples is longer than the longer function
-length-add : (F : Arithmetic) (t k : ℕ) (h f : List ℕ) → length h ≤ k → length f ≤ k → length (addScaled F t h f) ≤ k
-unfolding addScaled
-length-add F t k [] f a b = b
-length-add F t zero (c ∷ h) f a b = absurd (omega arith)
-length-add F t (suc k) (c ∷ h) [] a b = omega (arith, length-add F t k h [] (le-of-suc-le-suc a) (omega arith))
-length-add F t (suc k) (c ∷ h) (d ∷ f) a b = omega (arith, length-add F t k h f (le-of-suc-le-suc a) (le-of-suc-le-suc b))
-
 -- what is corrected, and made k coefficients
 module _ (F : Arithmetic) (P : Point) (v k : ℕ) (g f : List ℕ) where
   pub corrected-length : length g ≤ k → length f ≤ k → length (corrected F P v g f) ≤ k
   unfolding corrected
-  corrected-length = length-add F _ k g f
+  corrected-length a b =
+      elim (decLt (length f) (length g)) [
+        | yes l ↦ omega (arith, length-add-longer F _ g f (omega arith))
+        | no h ↦ omega (arith, length-add F _ g f (omega arith))
+      ]
 
 pub padded-holds : {f g l : List ℕ} {size k : ℕ} → Holds f size l → take k g ≡ take size f ++ replicate (k - size) 0 → k ≤ length g → Holds g k (padded k l)
 padded-holds {k = k} h e w = record { within = w; first = e ∙ ap₂ (λ a n. a ++ replicate (k - n) 0) (h .first) (sym (holds-length h)) }

@@ -3,7 +3,7 @@ use Prim.Native.Nat.{ℕ, zero, suc, _+_, _<_, _≤_}
 use mathlib.Core.Path.{_≡_, refl, sym, _∙_, ap, subst}
 use mathlib.Core.Bool.{true}
 use mathlib.Core.List.{List, [], _∷_}
-use native.Mathlib.Nat.{le-trans, le-max-left, le-max-right, zero-add, add-zero}
+use native.Mathlib.Nat.{le-trans, le-max-left, le-max-right, le-of-eq, zero-add, add-zero}
 use native.Mathlib.Omega.{arith}
 use native.Mathlib.Decide.{ℕ-discrete}
 use lib.ListN.{length, getD, replicate, length-replicate}
@@ -14,7 +14,7 @@ use Rattle.elliptic.specs.declared.Point.{Point}
 use Rattle.elliptic.specs.Functions.{weight, nonzero, degreeFrom, degree}
 use Rattle.elliptic.specs.Pair.{evaluate, addScaled}
 use Rattle.elliptic.proofs.Points.{All, All.nil, All.cons}
-use Rattle.elliptic.proofs.Function.{Under, Under.none, Under.more, Coefficients, Lead, Lead.top, Lead.low, under-add}
+use Rattle.elliptic.proofs.Function.{Under, Under.none, Under.more, Coefficients, Lead, Lead.top, Lead.low, under-add, length-add}
 use Rattle.elliptic.proofs.Padding.{Zeros, evaluate-pad}
 use Rattle.elliptic.proofs.Values.{nonzero-false, false-nonzero}
 use Rattle.codewords.proofs.Tests.{passes, not-both}
@@ -82,14 +82,8 @@ module _ {F : Arithmetic} (K : Field F) where
 
   -- ---- f + t·h
 
-  length-add : (t : ℕ) (h f : List ℕ) → length f ≡ length h → length (addScaled F t h f) ≡ length f
-  unfolding addScaled
-  length-add t [] f e = refl
-  length-add t (c ∷ h) [] e = absurd (omega arith)
-  length-add t (c ∷ h) (d ∷ f) e = ap suc (length-add t h f (omega arith))
-
   pub coefficients-add : {k : ℕ} (t : ℕ) {h f : List ℕ} → Coefficients F k h → Coefficients F k f → Coefficients F k (addScaled F t h f)
-  coefficients-add t {h} {f} u v = record { under = under-add K t (u .under) (v .under); size = length-add t h f (v .size ∙ sym (u .size)) ∙ v .size }
+  coefficients-add t {h} {f} u v = record { under = under-add K t (u .under) (v .under); size = length-add F t h f (le-of-eq (u .size ∙ sym (v .size))) ∙ v .size }
 
   -- ---- the zero function
 

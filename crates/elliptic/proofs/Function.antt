@@ -1,5 +1,5 @@
 -- Functions as lists of coefficients in weight order, the constant first: their sums and their values.
-use Prim.Native.Nat.{ℕ, zero, suc, _<_, _≤_}
+use Prim.Native.Nat.{ℕ, zero, suc, _<_, _≤_, zero-le}
 use mathlib.Core.Path.{_≡_, refl, sym, _∙_, ap, ap₂, subst⁻¹}
 use mathlib.Core.List.{List, [], _∷_}
 use native.Mathlib.Nat.{le-of-suc-le-suc, not-suc-le-zero}
@@ -37,6 +37,21 @@ module _ (F : Arithmetic) where
   unfoldable pub slope : List ℕ → ℕ → ℕ
   slope [] x = 0
   slope (c ∷ cs) x = horner F x cs .1
+
+-- how many coefficients a sum has
+module _ (F : Arithmetic) (t : ℕ) where
+  pub length-add : (h f : List ℕ) → length h ≤ length f → length (addScaled F t h f) ≡ length f
+  unfolding addScaled
+  length-add [] f e = refl
+  length-add (c ∷ h) [] e = absurd (not-suc-le-zero e)
+  length-add (c ∷ h) (d ∷ f) e = ap suc (length-add h f (le-of-suc-le-suc e))
+
+  pub length-add-longer : (h f : List ℕ) → length f ≤ length h → length (addScaled F t h f) ≡ length h
+  unfolding addScaled
+  length-add-longer [] [] e = refl
+  length-add-longer [] (d ∷ f) e = absurd (not-suc-le-zero e)
+  length-add-longer (c ∷ h) [] e = ap suc (length-add-longer h [] zero-le)
+  length-add-longer (c ∷ h) (d ∷ f) e = ap suc (length-add-longer h f (le-of-suc-le-suc e))
 
 module _ {F : Arithmetic} (K : Field F) where
   infixl 70 _·_

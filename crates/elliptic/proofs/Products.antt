@@ -4,7 +4,7 @@ use mathlib.Core.Path.{_≡_, refl, sym, _∙_, ap, ap₂, subst}
 use mathlib.Core.List.{List, [], _∷_, _++_}
 use mathlib.Core.Bool.{cond}
 use native.Mathlib.Omega.{arith}
-use lib.ListN.{length, replicate}
+use lib.ListN.{length, replicate, length-append, length-replicate}
 use borrow.Author.Tests.{ne-eqb}
 use Rattle.field.specs.Sum.{_⊕_}
 use Rattle.field.proofs.Sum.{zero-⊕}
@@ -22,6 +22,22 @@ unfoldable pub timesX : List ℕ → List ℕ
 timesX [] = []
 timesX (c ∷ []) = 0 ∷ c ∷ []
 timesX (c ∷ d ∷ cs) = 0 ∷ c ∷ 0 ∷ d ∷ cs
+
+-- how many coefficients (X + α)·f has
+module _ (F : Arithmetic) where
+  length-shifted : (α a b : ℕ) (cs : List ℕ) → length (shifted F α a b cs) ≡ length cs
+  unfolding shifted
+  length-shifted α a b [] = refl
+  length-shifted α a b (c ∷ cs) = ap suc (length-shifted α b c cs)
+
+  length-linear : (α : ℕ) (f : List ℕ) → length (timesLinear F α f) ≡ length f
+  unfolding timesLinear
+  length-linear α [] = refl
+  length-linear α (c ∷ cs) = ap suc (length-shifted α c 0 cs)
+
+  pub length-raised : (α : ℕ) (f : List ℕ) → length (raised F α f) ≡ length f + growth (length f)
+  unfolding raised
+  length-raised α f = length-linear α _ ∙ length-append f _ ∙ ap (λ n. length f + n) (length-replicate _ 0)
 
 growth-two : (n : ℕ) → growth (suc (suc n)) ≡ 2
 growth-two n = ap (λ b. cond b 1 2) (ne-eqb (suc (suc n)) 1 (λ e. omega arith))
@@ -66,10 +82,14 @@ module _ {F : Arithmetic} (K : Field F) where
   sum-step : (x α v : ℕ) → x · v ⊕ α · v ≡ (x ⊕ α) · v
   sum-step x α v = simp ring
 
-  pub evaluate-raised : {l n : ℕ} {f : List ℕ} (α : ℕ) → Lead F l n f → (P : Point) → evaluate F (raised F α f) P ≡ (P .x ⊕ α) · evaluate F f P
-  evaluate-raised {f = c ∷ cs} α t P =
+  pub evaluate-raised-some : (α : ℕ) (f : List ℕ) → 0 < length f → (P : Point) → evaluate F (raised F α f) P ≡ (P .x ⊕ α) · evaluate F f P
+  evaluate-raised-some α [] h P = absurd (omega arith)
+  evaluate-raised-some α (c ∷ cs) h P =
       ap (λ f. evaluate F f P) (raised-is α c cs) ∙ evaluate-add K α (c ∷ cs) _ P
       ∙ ap (λ u. u ⊕ α · evaluate F (c ∷ cs) P) (evaluate-x (c ∷ cs) P) ∙ sum-step (P .x) α _
+
+  pub evaluate-raised : {l n : ℕ} {f : List ℕ} (α : ℕ) → Lead F l n f → (P : Point) → evaluate F (raised F α f) P ≡ (P .x ⊕ α) · evaluate F f P
+  evaluate-raised {f = c ∷ cs} α t P = evaluate-raised-some α (c ∷ cs) (omega arith) P
 
   pub lead-raised : {l n : ℕ} {f : List ℕ} (α : ℕ) → Lead F l n f → (m : ℕ) × (weight m ≡ weight n + 2) × Lead F l m (raised F α f)
   lead-raised {l} {n} {f = c ∷ cs} α t =

@@ -31,7 +31,7 @@ pub struct Lengths {
 }
 
 // How many coefficients (X + α) times a function of n coefficients has.
-fn grown(n: usize) -> usize
+pub fn grown(n: usize) -> usize
     requires { ⌜ n + 2 < 2 ^ 64 ⌝ }
     ensures { λ r. ⌜ r ≡ n + growth n ⌝ }
 {
@@ -124,7 +124,7 @@ pub fn complete(
 }
 
 // The shorter of two functions as L; the first stands in the first array.
-fn ordered(first: usize, second: usize) -> Sizes
+pub fn ordered(first: usize, second: usize) -> Sizes
     ensures { λ r. ⌜ Ordered first second r ⌝ }
 {
     if second < first {
@@ -142,7 +142,7 @@ fn ordered(first: usize, second: usize) -> Sizes
 }
 
 // The arrays the other way round.
-fn swapped(n: Sizes) -> Sizes
+pub fn swapped(n: Sizes) -> Sizes
     ensures { λ r. ⌜ (r .low ≡ n .low) × (r .high ≡ n .high) × (r .turned ≡ not (n .turned)) ⌝ }
 {
     Sizes {

@@ -1,0 +1,85 @@
+-- The loop's invariant: the arrays show the pair of the first i points, at the points from i on.
+use mathlib.Core.List.{[]}
+use mathlib.Core.Path.{_≡_, refl, sym, _∙_}
+use Prim.Native.Nat.{_≤_, _-_}
+use native.Mathlib.Omega.{arith}
+use lib.ListN.{length}
+use Rattle.field.specs.Galois.{galois}
+use Rattle.elliptic.specs.Pair.{after}
+use Rattle.values.specs.Values.{ShownIn, pointsIn}
+use Rattle.values.proofs.Runs.{begins, fits, first-more}
+use borrow.Author.Needs.{needs}
+use Rattle.values.proofs.run.run_pair.Statement.{statement}
+use Rattle.values.proofs.run.run_pair.Tie as tie
+
+abbrev Inv-loop : tie.InvT-loop
+Inv-loop m powers logs xs ys count l₀ u₀ n₀ i₀ l u n i = (length l ≡ length xs) × (length u ≡ length xs) × (i ≤ count) × ShownIn m xs ys i l u n (after (galois m) (pointsIn xs ys) [] i)
+
+abbrev μ-loop : tie.MeasureT-loop
+μ-loop m powers logs xs ys count l₀ u₀ n₀ i₀ l u n i = count - i
+
+begin-requires : tie.Need-begin-requires Inv-loop μ-loop
+begin-requires c κs = let pre = c .before .before .before .before .before .before .pre .1 .0 in (pre .1 ∙ sym (pre .0 .as-many), pre .2 ∙ sym (pre .0 .as-many))
+
+loop-holds : tie.Need-loop-holds Inv-loop μ-loop
+unfolding after
+loop-holds c =
+    let s = c .before .before .before .before .before .before .before .before .before .before .before in
+    let b = c .before .before .before .before .begin .ensures in
+    let p = begins (s .pre .0 .field) (s .pre .1 .0 .0) refl refl refl (b .0) (b .1) in
+    (p .low-values .size, p .high-values .size, omega arith, p)
+
+add-pair-turn : tie.Need-add-pair-turn Inv-loop μ-loop
+add-pair-turn c = search needs
+
+pair-turn-requires : tie.Need-pair-turn-requires Inv-loop μ-loop
+pair-turn-requires c κs =
+    let s = c .before .before .before .before .before .before .before .before .before .before .before .before .before .before .before in
+    let at = c .before .before .before .loop in
+    let h = c .before .before .loop-test .taken in
+    (s .pre .0, (omega (arith, s .pre .1 .1 .enough), fits (at .inv .0) (at .inv .1) (s .pre .1 .1 .small (at .i) h) (at .inv .3)))
+
+add-i : tie.Need-add-i Inv-loop μ-loop
+add-i c = search needs
+
+loop-less : tie.Need-loop-less Inv-loop μ-loop
+loop-less c = search needs
+
+loop-again : tie.Need-loop-again Inv-loop μ-loop
+loop-again c =
+    let s = c .before .before .before .before .before .before .before .before .before .before .before .before .before .before .before .before .before .before .before .before in
+    let at = c .before .before .before .before .before .before .before .before .loop in
+    let h = c .before .before .before .before .before .before .before .loop-test .taken in
+    let r = c .before .before .before .before .pair-turn .ensures in
+    let a = s .args in
+    let more = r .next (a .ys .now) (at .i) _ 0 (omega arith) (omega arith) (s .pre .1 .1 .small (at .i) h) (at .inv .3) in
+    (r .first-size, r .second-size, omega arith, rw (first-more (a .m) (a .xs .now) (a .ys .now) (at .i) (omega (arith, s .pre .1 .1 .enough))) at more)
+
+same-length : tie.Need-same-length Inv-loop μ-loop
+same-length c = search needs
+
+same-length-2 : tie.Need-same-length-2 Inv-loop μ-loop
+same-length-2 c = search needs
+
+returns : tie.Need-returns Inv-loop μ-loop
+returns c =
+    let at = c .before .loop in
+    let full : at .i ≡ c .before .before .before .before .before .before .before .before .before .before .before .before .before .args .count = omega arith in
+    rw (← full) (at .inv .3)
+
+pub run-pair-spec : {M : Type 1} → statement M
+run-pair-spec =
+    tie.close
+    (tie.spec
+    Inv-loop
+    μ-loop
+    begin-requires
+    loop-holds
+    add-pair-turn
+    pair-turn-requires
+    add-i
+    loop-less
+    loop-again
+    same-length
+    same-length-2
+    returns)

@@ -1,0 +1,91 @@
+-- The loop's invariant: the values behind i are by the rules, and the rest is as it was.
+use mathlib.Core.Path.{_≡_}
+use Prim.Native.Nat.{_-_}
+use native.Mathlib.Omega.{arith}
+use lib.ListN.{length}
+use borrow.Author.Needs.{needs}
+use Rattle.engine.proofs.Laws.{logged, by-logged}
+use Rattle.values.specs.Values.{raisedAt, gainedAt}
+use Rattle.values.proofs.Sweeps.{Sweeping, sweeping-none, sweeping-turn, sweeping-all, raised-by, gained-by}
+use Rattle.values.proofs.sweep.gain_raise.Statement.{statement}
+use Rattle.values.proofs.sweep.gain_raise.Tie as tie
+
+abbrev Inv-loop : tie.InvT-loop
+Inv-loop m powers logs alpha t from xs h₀ g₀ by-t i₀ h g i = Sweeping (raisedAt m xs alpha h₀) from i h₀ h × Sweeping (gainedAt m t h₀ g₀) from i g₀ g
+
+abbrev μ-loop : tie.MeasureT-loop
+μ-loop m powers logs alpha t from xs h₀ g₀ by-t i₀ h g i = length xs - i
+
+logarithm-requires : tie.Need-logarithm-requires Inv-loop μ-loop
+logarithm-requires c κs = search needs
+
+loop-holds : tie.Need-loop-holds Inv-loop μ-loop
+loop-holds c = (sweeping-none _ _ _, sweeping-none _ _ _)
+
+slice-read-c : tie.Need-slice-read-c Inv-loop μ-loop
+slice-read-c c = search needs
+
+product-by-log-requires : tie.Need-product-by-log-requires Inv-loop μ-loop
+product-by-log-requires c κs = let s = c .before .before .before .before .before .before .before in (s .pre .0, logged (s .pre .0 .field) (s .fits .t .fits) (c .before .before .before .logarithm .ensures))
+
+shared-slice-read-product : tie.Need-shared-slice-read-product Inv-loop μ-loop
+shared-slice-read-product c = search needs
+
+product-requires : tie.Need-product-requires Inv-loop μ-loop
+product-requires c κs = search needs
+
+slice-write-h : tie.Need-slice-write-h Inv-loop μ-loop
+slice-write-h c = search needs
+
+slice-read-g : tie.Need-slice-read-g Inv-loop μ-loop
+slice-read-g c = search needs
+
+slice-write-g : tie.Need-slice-write-g Inv-loop μ-loop
+slice-write-g c = search needs
+
+add-i : tie.Need-add-i Inv-loop μ-loop
+add-i c = search needs
+
+loop-less : tie.Need-loop-less Inv-loop μ-loop
+loop-less c = search needs
+
+loop-again : tie.Need-loop-again Inv-loop μ-loop
+loop-again c = let at = c .before .before .before .before .before .before in
+    let s = c .before .before .before .before .before .before .before .before .before .before .before in
+    let old = at .loop .inv .0 .rest (at .loop .i) (omega arith) in
+    let gain = by-logged (s .pre .0 .field) (s .fits .t .fits) (c .before .before .before .before .before .before .before .logarithm .ensures) _ (c .before .before .before .product-by-log .ensures) in (
+      sweeping-turn _ _ _ (at .loop .i) (omega (arith, s .pre .1 .0)) (at .loop .inv .0) (raised-by (s .args .m) (at .loop .inv .0) (s .args .xs .now) (s .args .alpha) (c .before .product .ensures)),
+      sweeping-turn _ _ _ (at .loop .i) (omega (arith, s .pre .1 .1)) (at .loop .inv .1) (gained-by (s .args .m) (s .args .t) (s .args .h .now) (at .loop .inv .1) old gain),
+    )
+
+same-length : tie.Need-same-length Inv-loop μ-loop
+same-length c = search needs
+
+same-length-2 : tie.Need-same-length-2 Inv-loop μ-loop
+same-length-2 c = search needs
+
+returns : tie.Need-returns Inv-loop μ-loop
+returns c = let s = c .before .before .before .before .before .before in
+    (sweeping-all _ _ _ (omega (arith, s .pre .1 .0)) (c .before .loop .inv .0), sweeping-all _ _ _ (omega (arith, s .pre .1 .1)) (c .before .loop .inv .1))
+
+pub gain-raise-spec : {M : Type 1} → statement M
+gain-raise-spec =
+    tie.close
+    (tie.spec
+    Inv-loop
+    μ-loop
+    logarithm-requires
+    loop-holds
+    slice-read-c
+    product-by-log-requires
+    shared-slice-read-product
+    product-requires
+    slice-write-h
+    slice-read-g
+    slice-write-g
+    add-i
+    loop-less
+    loop-again
+    same-length
+    same-length-2
+    returns)

@@ -1,0 +1,108 @@
+-- The two cases of a step: L is zero at the place, or it is not.
+use mathlib.Core.Path.{refl}
+use native.Mathlib.Omega.{arith}
+use Rattle.values.proofs.Steps.{keeps, steps, word-keeps, word-steps}
+use borrow.Author.Needs.{needs}
+use Rattle.values.proofs.word.word_step.Statement.{statement}
+use Rattle.values.proofs.word.word_step.Tie as tie
+
+shared-slice-read-alpha : tie.Need-shared-slice-read-alpha
+shared-slice-read-alpha c = search needs
+
+slice-read-missing : tie.Need-slice-read-missing
+slice-read-missing c = search needs
+
+slice-read-at : tie.Need-slice-read-at
+slice-read-at c = search needs
+
+slice-read-quotient : tie.Need-slice-read-quotient
+slice-read-quotient c = search needs
+
+quotient-requires : tie.Need-quotient-requires
+quotient-requires c κs = search needs
+
+gain-raise-requires : tie.Need-gain-raise-requires
+gain-raise-requires c κs = search needs
+
+grown-requires : tie.Need-grown-requires
+grown-requires c κs = search needs
+
+same-length : tie.Need-same-length
+same-length c = search needs
+
+same-length-2 : tie.Need-same-length-2
+same-length-2 c = search needs
+
+returns : tie.Need-returns
+returns c =
+    let s = c .before .before .before .before .before .before .before .before .before .before .before .before .before .before .before .before .before .before in
+    let fits = s .pre .1 .1 in
+    let swept = c .before .before .before .before .before .gain-raise .ensures in
+    let zero = c .before .before .before .before .before .before .before .before .before .before .if1 .taken in
+    let pair = keeps (s .pre .0 .field) (s .pre .1 .0) _ _ (fits .first) (fits .second) zero (swept .0) refl refl (c .grown .ensures) in
+    word-keeps (s .pre .0 .field) (s .args .v) (s .pre .1 .0) (s .pre .1 .2) pair _ zero (c .before .before .before .before .before .before .before .before .quotient .ensures) (swept .1)
+
+slice-read-quotient-2 : tie.Need-slice-read-quotient-2
+slice-read-quotient-2 c = search needs
+
+quotient-requires-2 : tie.Need-quotient-requires-2
+quotient-requires-2 c κs = search needs
+
+quotient-requires-3 : tie.Need-quotient-requires-3
+quotient-requires-3 c κs = search needs
+
+gain-both-raise-requires : tie.Need-gain-both-raise-requires
+gain-both-raise-requires c κs = search needs
+
+grown-requires-2 : tie.Need-grown-requires-2
+grown-requires-2 c κs = omega (arith, c .before .before .before .before .before .before .before .before .before .before .before .before .before .before .before .before .before .before .before .before .before .pre .1 .1 .low-room)
+
+longer-requires : tie.Need-longer-requires
+longer-requires c κs = search needs
+
+ordered-requires : tie.Need-ordered-requires
+ordered-requires c κs = search needs
+
+same-length-3 : tie.Need-same-length-3
+same-length-3 c = search needs
+
+same-length-4 : tie.Need-same-length-4
+same-length-4 c = search needs
+
+same-length-5 : tie.Need-same-length-5
+same-length-5 c = search needs
+
+returns-2 : tie.Need-returns-2
+returns-2 c =
+    let s = c .before .before .before .before .before .before .before .before .before .before .before .before .before .before .before .before .before .before .before .before .before .before .before .before in
+    let fits = s .pre .1 .1 in
+    let swept = c .before .before .before .before .before .before .before .before .before .gain-both-raise .ensures in
+    let other = c .before .before .before .before .before .before .before .before .before .before .before .before .before .before .before .before .if1 .left in
+    let pair = steps (s .pre .0 .field) (s .pre .1 .0) _ _ (fits .first) (fits .second) other (c .before .before .before .before .before .before .before .before .before .before .before .before .before .before .quotient2 .ensures) (swept .0) (swept .1) (rw (c .before .before .grown2 .ensures, c .before .longer .ensures) at (c .ordered .ensures)) in
+    word-steps (s .pre .0 .field) (s .args .v) (s .pre .1 .0) (s .pre .1 .2) pair _ other (c .before .before .before .before .before .before .before .before .before .before .before .before .before .quotient3 .ensures) (swept .2)
+
+pub word-step-spec : {M : Type 1} → statement M
+word-step-spec =
+    tie.close
+    (tie.spec
+    shared-slice-read-alpha
+    slice-read-missing
+    slice-read-at
+    slice-read-quotient
+    quotient-requires
+    gain-raise-requires
+    grown-requires
+    same-length
+    same-length-2
+    returns
+    slice-read-quotient-2
+    quotient-requires-2
+    quotient-requires-3
+    gain-both-raise-requires
+    grown-requires-2
+    longer-requires
+    ordered-requires
+    same-length-3
+    same-length-4
+    same-length-5
+    returns-2)

@@ -1,0 +1,77 @@
+// L and U by their values, and what one more place makes of them.
+use crate::sweep::gain_raise;
+use crate::sweep::raise;
+use engine::pair::Sizes;
+use engine::pair::grown;
+use engine::pair::ordered;
+use engine::pair::swapped;
+use field::quotient;
+ghost use mathlib.Core.Path.{_≡_};
+ghost use mathlib.Core.Bool.{cond};
+ghost use Prim.Native.Nat.{_+_, _^_, _<_, _≤_};
+ghost use lib.ListN.{length};
+ghost use lib.Dec.{ltb};
+ghost use Rattle.field.specs.Tables.{Tables};
+ghost use Rattle.values.specs.Values.{Steps, Fits};
+
+// How many coefficients the sum of two functions has.
+pub fn longer(a: usize, b: usize) -> usize
+    ensures { λ r. ⌜ r ≡ cond (ltb b a) a b ⌝ }
+{
+    if b < a { a } else { b }
+}
+
+// One more place, with index j: L is in l and U in u. What stands before the index `from` is needed no more.
+pub fn pair_step(
+    m: u8,
+    powers: &[u8; 255],
+    logs: &[u8; 256],
+    j: usize,
+    from: usize,
+    xs: &[u8],
+    l: &mut [u8],
+    u: &mut [u8],
+    n: Sizes,
+) -> Sizes
+    requires { ⌜ Tables m (now powers) (now logs) ⌝ }
+    requires { ⌜ (j < length (now xs)) × Fits (now xs) (now l) (now u) n ⌝ }
+    ensures { λ r. ⌜ Steps m (now (xs .entry)) j from (now (l .entry)) (now (u .entry)) (n .low) (n .high) (now (l .exit)) (now (u .exit)) r ⌝ }
+{
+    let alpha = xs[j];
+    let at = l[j];
+    if at == 0 {
+        raise(m, powers, logs, alpha, from, xs, u);
+        return Sizes {
+            low: n.low,
+            high: grown(n.high),
+            turned: false,
+        };
+    }
+    let t = quotient(m, powers, logs, u[j], at);
+    gain_raise(m, powers, logs, alpha, t, from, xs, l, u);
+    ordered(grown(n.low), longer(n.low, n.high))
+}
+
+// The same, with L and U in either array.
+pub fn pair_turn(
+    m: u8,
+    powers: &[u8; 255],
+    logs: &[u8; 256],
+    j: usize,
+    from: usize,
+    xs: &[u8],
+    l: &mut [u8],
+    u: &mut [u8],
+    n: Sizes,
+) -> Sizes
+    requires { ⌜ Tables m (now powers) (now logs) ⌝ }
+    requires { ⌜ (j < length (now xs)) × Fits (now xs) (now l) (now u) n ⌝ }
+    ensures { λ r. ⌜ Steps m (now (xs .entry)) j from (cond (n .turned) (now (u .entry)) (now (l .entry))) (cond (n .turned) (now (l .entry)) (now (u .entry))) (n .low) (n .high)
+        (now (l .exit)) (now (u .exit)) r ⌝ }
+{
+    let turned = n.turned;
+    if turned {
+        return swapped(pair_step(m, powers, logs, j, from, xs, u, l, n));
+    }
+    pair_step(m, powers, logs, j, from, xs, l, u, n)
+}
