@@ -1,2 +1,3 @@
 -- What the arrays of values hold.
 pub mod Values
+pub mod Factors
