@@ -1,51 +1,13 @@
 //! The operations on chosen places against elimination, brute force over all codewords, and the curve's group.
 mod common;
-use common::{above, agree_with_work, other_length, Call, Filler, OwnCode, FIELDS};
-use std::fmt::Debug;
-use std::marker::PhantomData;
-use vakhudle::plain::field::{power, product};
-use vakhudle::plain::{code, curve, fast, places as simple, Random};
-use vakhudle::{Answer, Code, WORKING_SPACE};
-
-/// An implementation of an operation on a code: places, symbols, the output, the working space.
-type Run<T> = fn(&Code, &[u16], &[u8], &mut [T], &mut [u8]) -> Answer;
-
-/// One of the six operations.
-trait Operation: Clone + Debug {
-    type Out: Filler + 'static;
-    /// The refusals in the order in which they are sought.
-    const ORDER: &'static [u8];
-    /// The proved one, then the others.
-    const RUNS: &'static [Run<Self::Out>];
-    /// How long the output is.
-    const ROOM: fn(&OwnCode) -> usize;
-    const HAS_PLACES: bool = has(Self::ORDER, 9);
-    const HAS_SYMBOLS: bool = has(Self::ORDER, 11);
-    /// Whether it takes k places and no other number.
-    const ONLY_K: bool = Self::HAS_PLACES && !has(Self::ORDER, 13);
-}
-
-const fn has(order: &[u8], number: u8) -> bool {
-    let mut i = 0;
-    while i < order.len() && order[i] != number {
-        i += 1;
-    }
-    i < order.len()
-}
-
-macro_rules! operations {
-    ($($name:ident: $out:ty, $order:expr, $room:expr, $runs:expr;)*) => {$(
-        #[derive(Clone, Debug)]
-        struct $name;
-
-        impl Operation for $name {
-            type Out = $out;
-            const ORDER: &'static [u8] = &$order;
-            const RUNS: &'static [Run<$out>] = &$runs;
-            const ROOM: fn(&OwnCode) -> usize = $room;
-        }
-    )*};
-}
+use common::places::{
+    adds_up_to_zero, another, dependent_choice, operations, some_places, spoilt_lists, symbols_at, usable_choice, whole_codes, word_of, Job,
+    Operation, Run,
+};
+use common::{above, Call, OwnCode, FIELDS};
+use vakhudle::plain::field::product;
+use vakhudle::plain::{code, fast, places as simple, Random};
+use vakhudle::{Code, WORKING_SPACE};
 
 operations! {
     Recover: u8, [1, 2, 3, 4, 5, 6, 7, 8, 11, 14], |code| code.k,
@@ -62,176 +24,6 @@ operations! {
             |code, ranked, _, out, work| fast::pick(code, ranked, out, work),
         ];
     Rebuild: u8, [1, 2, 3, 4, 5, 6, 7, 8, 9, 10, 11, 13, 12, 14], OwnCode::n, [vakhudle::rebuild, simple::rebuild, fast::rebuild];
-}
-
-/// A call of an operation. Those that take no places, or no symbols, leave these lists empty.
-#[derive(Clone, Debug)]
-struct Job<O: Operation> {
-    code: OwnCode,
-    places: Vec<u16>,
-    symbols: Vec<u8>,
-    room: usize,
-    work: usize,
-    /// A dependent choice, if one was found, to spoil the call with.
-    dependent: Option<Vec<u16>>,
-    operation: PhantomData<O>,
-}
-
-impl<O: Operation> Job<O> {
-    fn new(code: &OwnCode, places: &[u16], symbols: &[u8]) -> Self {
-        Job {
-            room: (O::ROOM)(code),
-            code: code.clone(),
-            places: places.to_vec(),
-            symbols: symbols.to_vec(),
-            // some are longer than need be
-            work: WORKING_SPACE + code.k % 3,
-            dependent: None,
-            operation: PhantomData,
-        }
-    }
-
-    /// The answer of all implementations, and what is written where it is accepted.
-    fn result(&self, random: &mut Random) -> (Answer, Vec<O::Out>) {
-        let (code, places, symbols) = (&self.code.code(), &self.places[..], &self.symbols[..]);
-        let (answer, out) = agree_with_work([self.room, self.work], random, O::RUNS, |run, out, work| run(code, places, symbols, out, work));
-        (answer, if answer.is_ok() { out.content().to_vec() } else { vec![] })
-    }
-}
-
-impl<O: Operation> Call for Job<O> {
-    const ORDER: &'static [u8] = O::ORDER;
-
-    fn spoil(&mut self, entry: usize, random: &mut Random) -> bool {
-        let (n, k) = (self.code.n(), self.code.k);
-        match O::ORDER[entry] {
-            8 => match random.below(4) {
-                0 if O::HAS_SYMBOLS => self.symbols.resize(other_length(self.symbols.len(), random), 0),
-                1 if O::HAS_PLACES => {
-                    let length = if O::ONLY_K { other_length(k, random) } else { n + random.pick(&[1, 2, 40, 300]) };
-                    // one by one they are right
-                    self.places = (0..length).map(|i| (i % n) as u16 + 1).collect();
-                    if O::HAS_SYMBOLS && !O::ONLY_K {
-                        self.symbols.resize(length, 0);
-                    }
-                }
-                2 => self.work = random.pick(&[0, 1, 292, 2_048, 4_096, 8_191]),
-                _ => self.room = other_length(self.room, random),
-            },
-            9 | 11 if self.places.is_empty() && self.symbols.is_empty() => return false,
-            9 => {
-                let i = random.below(self.places.len() as u64) as usize;
-                // the last ones look right when cut to 8 bits
-                self.places[i] = random.pick(&[0, n as u16 + 1, 289, 290, 65_535, 256 * (n as u16 / 256 + 1) + 1, 0x8001, self.places[i] | 0x400]);
-            }
-            10 if self.places.len() < 2 => return false,
-            10 => {
-                let count = self.places.len() as u64;
-                let i = random.below(count);
-                let j = (i + 1 + random.below(count - 1)) % count;
-                self.places[i as usize] = self.places[j as usize];
-            }
-            11 if self.code.field == 8 => return false,
-            11 => {
-                let i = random.below(self.symbols.len() as u64) as usize;
-                self.symbols[i] = above(self.code.size(), random);
-            }
-            12 => match &self.dependent {
-                Some(choice) => {
-                    self.places = choice.clone();
-                    if O::HAS_SYMBOLS {
-                        self.symbols.resize(k, 0);
-                    }
-                }
-                None => return false,
-            },
-            13 => {
-                let count = random.below(k as u64) as usize;
-                self.places.truncate(count);
-                self.symbols.truncate(count);
-            }
-            14 => return self.contradict(random),
-            // any k − 1 places of a dependent choice and one more are usable
-            15 => self.places[k - 1] = another(&self.places, n, random),
-            number => return self.code.spoil(number, random),
-        }
-        true
-    }
-
-    fn run(&self, random: &mut Random) -> Answer {
-        self.result(random).0
-    }
-}
-
-impl<O: Operation> Job<O> {
-    /// Changes one symbol so that no codeword agrees. Where all other places leave two codewords for it, that isn't so, and another is tried.
-    fn contradict(&mut self, random: &mut Random) -> bool {
-        let (n, k, q) = (self.code.n(), self.code.k, self.code.size() as u64);
-        if O::HAS_PLACES && self.places.len() == k {
-            let word = word_of(&self.code, &self.places, &self.symbols);
-            let place = another(&self.places, n, random);
-            self.places.push(place);
-            self.symbols.push(word[place as usize - 1]);
-        }
-        let places = if self.places.is_empty() { (1..=n as u16).collect() } else { self.places.clone() };
-        for _ in 0..20 {
-            let i = random.below(places.len() as u64) as usize;
-            let others: Vec<u16> = places.iter().copied().filter(|&p| p != places[i]).collect();
-            if simple::rank(&self.code.code(), &others) == k {
-                self.symbols[i] ^= random.between(1, q as i64 - 1) as u8;
-                return true;
-            }
-        }
-        false
-    }
-}
-
-/// A place that isn't in the list.
-fn another(places: &[u16], n: usize, random: &mut Random) -> u16 {
-    let rest: Vec<u16> = (1..=n as u16).filter(|p| !places.contains(p)).collect();
-    random.pick(&rest)
-}
-
-/// Different places at random.
-fn some_places(n: usize, count: usize, random: &mut Random) -> Vec<u16> {
-    let mut places: Vec<u16> = (1..=n as u16).collect();
-    random.shuffle(&mut places);
-    places.truncate(count);
-    places
-}
-
-fn is_dependent(code: &OwnCode, places: &[u16]) -> bool {
-    simple::rank(&code.code(), places) < code.k
-}
-
-fn usable_choice(code: &OwnCode, random: &mut Random) -> Vec<u16> {
-    let mut places = some_places(code.n(), code.k, random);
-    if is_dependent(code, &places) {
-        places[code.k - 1] = another(&places, code.n(), random);
-    }
-    places
-}
-
-/// Looks for a dependent choice: one function vanishes at k − 1 places, and often at one place more.
-fn dependent_choice(code: &OwnCode, tries: usize, random: &mut Random) -> Option<Vec<u16>> {
-    (0..tries).find_map(|_| {
-        let mut places = some_places(code.n(), code.k - 1, random);
-        let f = simple::only_zero_function(&code.code(), &places)?;
-        let zero = |&p: &u16| code::value(code.field, &f, code.xs[p as usize - 1], code.ys[p as usize - 1]) == 0;
-        places.push((1..=code.n() as u16).filter(|p| !places.contains(p)).find(zero)?);
-        random.shuffle(&mut places);
-        Some(places)
-    })
-}
-
-fn word_of(code: &OwnCode, places: &[u16], message: &[u8]) -> Vec<u8> {
-    let mut word = vec![0; code.n()];
-    simple::systematic_word(&code.code(), places, message, &mut word, &mut [0; WORKING_SPACE]).unwrap();
-    word
-}
-
-fn symbols_at(word: &[u8], places: &[u16]) -> Vec<u8> {
-    places.iter().map(|&p| word[p as usize - 1]).collect()
 }
 
 /// All six operations at one choice, usable or not, and what they must have to do with one another.
@@ -319,30 +111,6 @@ fn spoil_all_at(code: &OwnCode, random: &mut Random) -> bool {
     dependent.is_some()
 }
 
-/// The sum of two points in the curve's group; `None` is the point at infinity.
-fn sum(field: u8, [g1, g2, g3, g4, _]: [u8; 5], a: Option<(u8, u8)>, b: Option<(u8, u8)>) -> Option<(u8, u8)> {
-    let p = |a, b| product(field, a, b);
-    let over = |a, b| p(a, power(field, b, (1 << field) - 2));
-    let (Some((x1, y1)), Some((x2, y2))) = (a, b) else {
-        return a.or(b);
-    };
-    let slope = if x1 != x2 {
-        over(y1 ^ y2, x1 ^ x2)
-    } else if y2 == y1 ^ p(g1, x1) ^ g3 {
-        return None;
-    } else {
-        over(p(x1, x1) ^ g4 ^ p(g1, y1), p(g1, x1) ^ g3)
-    };
-    let x = p(slope, slope) ^ p(g1, slope) ^ g2 ^ x1 ^ x2;
-    Some((x, p(slope, x1 ^ x) ^ y1 ^ p(g1, x) ^ g3))
-}
-
-/// Places are dependent exactly if their points add up to zero.
-fn adds_up_to_zero(code: &OwnCode, places: &[u16]) -> bool {
-    let points = places.iter().map(|&p| Some((code.xs[p as usize - 1], code.ys[p as usize - 1])));
-    points.fold(None, |a, b| sum(code.field, code.curve, a, b)).is_none()
-}
-
 fn opposite(code: &OwnCode, i: usize) -> (u8, u8) {
     let [g1, _, g3, _, _] = code.curve;
     (code.xs[i], code.ys[i] ^ product(code.field, g1, code.xs[i]) ^ g3)
@@ -360,15 +128,6 @@ fn opposites(code: &OwnCode) -> (Vec<[u16; 2]>, Vec<u16>) {
         }
     }
     (pairs, own)
-}
-
-/// Every curve over a field whose index passes the filter, with all its points, if they are two or more.
-fn whole_codes(field: u8, filter: impl Fn(u32) -> bool) -> impl Iterator<Item = OwnCode> {
-    (0..1u32 << (5 * field)).filter(move |&i| filter(i)).filter_map(move |i| {
-        let curve = [0, 1, 2, 3, 4].map(|j| (i >> (j * field) & ((1 << field) - 1)) as u8);
-        let code = OwnCode::whole(field, curve, 1);
-        (!curve::is_singular(field, curve) && code.n() >= 2).then_some(code)
-    })
 }
 
 /// Every accepted curve over 4 elements with all its points, every dimension, and every choice.
@@ -604,25 +363,6 @@ fn spoilt_calls() {
         let dependent = (0..count).filter(|_| spoil_all_at(&OwnCode::random(field, &mut random), &mut random)).count();
         assert!(dependent > count / 8, "field {field}: {dependent} of {count}");
     }
-}
-
-/// The list with a number outside 1 to n at each index, and with the same number at two indices; beside each the refusal.
-fn spoilt_lists(places: &[u16], n: usize, random: &mut Random) -> Vec<(Vec<u16>, u8)> {
-    let mut lists = vec![];
-    for i in 0..places.len() {
-        let mut list = |new, number| {
-            let mut list = places.to_vec();
-            list[i] = new;
-            lists.push((list, number));
-        };
-        [0, n as u16 + 1, 65_535].into_iter().for_each(|new| list(new, 9));
-        for j in 0..places.len() {
-            if j != i && (places.len() < 20 || random.once_in(places.len() as u64 / 4)) {
-                list(places[j], 10);
-            }
-        }
-    }
-    lists
 }
 
 /// A fault at every index by itself: each place out of range, two places the same, each symbol out of range.
