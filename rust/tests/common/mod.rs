@@ -1,5 +1,5 @@
 //! What the tests share: codes at random, lent memory with a border, and calls that are spoilt in one or two ways.
-#![allow(dead_code)] // no test uses all of it
+#![allow(dead_code, unused_imports, unused_macros)] // no test uses all of it
 pub mod places;
 use std::fmt::Debug;
 use vakhudle::plain::{curve, Random};
