@@ -80,6 +80,12 @@ int32_t vakhudle_systematic_word(uint8_t field, uint8_t g1, uint8_t g2, uint8_t 
                                  const uint8_t *ys, size_t ys_len, size_t k, const uint16_t *places, size_t places_len, const uint8_t *message,
                                  size_t message_len, uint8_t *symbols_out, size_t symbols_out_len, uint8_t *work, size_t work_len);
 
+/* The k rows of n symbols one after the other: row i, from 0 on, is the codeword whose symbol is 1 at the i-th of k places, in any order, and 0 at
+ * the others. symbols_out_len is k * n. Refuses code, 8, 9, 10, 12. */
+int32_t vakhudle_matrix(uint8_t field, uint8_t g1, uint8_t g2, uint8_t g3, uint8_t g4, uint8_t g6, const uint8_t *xs, size_t xs_len,
+                        const uint8_t *ys, size_t ys_len, size_t k, const uint16_t *places, size_t places_len, uint8_t *symbols_out,
+                        size_t symbols_out_len, uint8_t *work, size_t work_len);
+
 /* The k coefficients of the function with leading coefficient 1 that is zero at all of k dependent places. Refuses code, 8, 9, 10, 15. */
 int32_t vakhudle_relation(uint8_t field, uint8_t g1, uint8_t g2, uint8_t g3, uint8_t g4, uint8_t g6, const uint8_t *xs, size_t xs_len,
                           const uint8_t *ys, size_t ys_len, size_t k, const uint16_t *places, size_t places_len, uint8_t *coefficients_out,

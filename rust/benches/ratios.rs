@@ -28,14 +28,14 @@ fn row(name: &str, unit: f64, (ours, plain): (f64, f64)) {
     println!("{name:<52} {:>12.2} {:>12.2} {:>8.2} {:>14.2}", ours / unit, plain / unit, ours / plain, plain / ours);
 }
 
-/// A row for an operation that fills one buffer. `calls` is how many make a round.
+/// A row for an operation that fills one buffer. `calls` is how many make a round. Answers our time.
 fn compare<T: Copy + PartialEq>(
     name: &str,
     calls: usize,
     buffer: Vec<T>,
     mut ours: impl FnMut(&mut [T]) -> vakhudle::Answer,
     mut plain: impl FnMut(&mut [T]) -> vakhudle::Answer,
-) {
+) -> f64 {
     let (mut a, mut b) = (buffer.clone(), buffer);
     assert_eq!(ours(&mut a).expect(name), plain(&mut b).expect(name), "{name}");
     assert!(a == b, "{name}");
@@ -50,6 +50,7 @@ fn compare<T: Copy + PartialEq>(
         },
     );
     row(name, 1.0, times);
+    times.0
 }
 
 fn products(random: &mut Random) {
@@ -146,6 +147,16 @@ fn codes(field: u8, curve: [u8; 5], k: usize, random: &mut Random) {
     );
 }
 
+/// One place more than k, in no order, and the k of them that are picked.
+fn heard_places(code: &Code, random: &mut Random) -> (Vec<u16>, Vec<u16>) {
+    let mut heard: Vec<u16> = (1..=code.xs.len() as u16).collect();
+    random.shuffle(&mut heard);
+    heard.truncate(code.k + 1);
+    let mut choice = vec![0; code.k];
+    fast::pick(code, &heard, &mut choice, &mut [0; WORKING_SPACE]).unwrap();
+    (heard, choice)
+}
+
 /// The operations on places beside elimination of the k by k system and evaluation with the same tables. What is heard is in no order.
 fn places(field: u8, curve: [u8; 5], k: usize, random: &mut Random) {
     let (xs, ys): (Vec<u8>, Vec<u8>) = curve::all_points(field, curve).into_iter().unzip();
@@ -156,11 +167,7 @@ fn places(field: u8, curve: [u8; 5], k: usize, random: &mut Random) {
     let (mut work, mut work_too) = (vec![0; WORKING_SPACE], vec![0; WORKING_SPACE]);
 
     // one more than k is heard, so that there is always a word to rebuild
-    let mut heard: Vec<u16> = (1..=n as u16).collect();
-    random.shuffle(&mut heard);
-    heard.truncate(k + 1);
-    let mut choice = vec![0; k];
-    fast::pick(&code, &heard, &mut choice, &mut work).unwrap();
+    let (heard, choice) = heard_places(&code, random);
     let message = random.symbols(field, k);
     let code = || black_box(code);
     compare(
@@ -190,6 +197,24 @@ fn places(field: u8, curve: [u8; 5], k: usize, random: &mut Random) {
     );
 }
 
+/// Matrix beside one elimination of the k by n generator matrix with the same tables. What a symbol costs shows how our time grows with k.
+fn matrix(field: u8, curve: [u8; 5], k: usize, bar: &str, random: &mut Random) {
+    let (xs, ys): (Vec<u8>, Vec<u8>) = curve::all_points(field, curve).into_iter().unzip();
+    let n = xs.len();
+    let code = Code { field, curve, xs: &xs, ys: &ys, k };
+    let (_, choice) = heard_places(&code, random);
+    let (mut work, mut work_too) = (vec![0; WORKING_SPACE], vec![0; WORKING_SPACE]);
+    let code = || black_box(code);
+    let ours = compare(
+        &format!("matrix, m = {field}, n = {n}, k = {k}{bar}"),
+        1,
+        vec![0u8; k * n],
+        |out| vakhudle::matrix(&code(), black_box(&choice), out, &mut work),
+        |out| fast::matrix(&code(), black_box(&choice), out, &mut work_too),
+    );
+    println!("{:<52} {:>12.2}", format!("    for each of its {} symbols", k * n), ours / (k * n) as f64);
+}
+
 /// A day of minutes.
 fn means(random: &mut Random) {
     let first_hour = 500_000;
@@ -210,10 +235,14 @@ fn main() {
     products(&mut random);
     codes(6, [0, 0, 1, 0, 0], 60, &mut random);
     places(6, [0, 0, 1, 0, 0], 60, &mut random);
+    matrix(6, [0, 0, 1, 0, 0], 60, " (bar: 6 times)", &mut random);
     // the most points that a curve over 256 elements can have
     let fullest = (1..=u16::MAX).map(|g| [0, 0, 1, (g >> 8) as u8, g as u8]).find(|&curve| curve::all_points(8, curve).len() == MOST_POINTS);
     let fullest = fullest.expect("a curve with 288 points");
     codes(8, fullest, 200, &mut random);
     places(8, fullest, 200, &mut random);
+    for (k, bar) in [(50, ""), (100, ""), (200, " (bar: 6 times)")] {
+        matrix(8, fullest, k, bar, &mut random);
+    }
     means(&mut random);
 }

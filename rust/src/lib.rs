@@ -105,6 +105,9 @@ over_code! {
     /// The n symbols of the codeword whose symbol at the i-th of k places is the i-th of the message.
     systematic_word = vakhudle_systematic_word(places: u16, message: u8; symbols_out: u8, work: u8);
 
+    /// The k rows of n symbols, one after the other: row i is the codeword whose symbol is 1 at the i-th of k places and 0 at the others.
+    matrix = vakhudle_matrix(places: u16; symbols_out: u8, work: u8);
+
     /// The k coefficients of the function with leading coefficient 1 that is zero at all of k dependent places.
     relation = vakhudle_relation(places: u16; coefficients_out: u8, work: u8);
 

@@ -55,6 +55,7 @@ over_code! {
     vakhudle_recover(symbols: *const u8, coefficients_out: *mut u8, work: *mut u8);
     vakhudle_systematic_function(places: *const u16, message: *const u8, coefficients_out: *mut u8, work: *mut u8);
     vakhudle_systematic_word(places: *const u16, message: *const u8, symbols_out: *mut u8, work: *mut u8);
+    vakhudle_matrix(places: *const u16, symbols_out: *mut u8, work: *mut u8);
     vakhudle_relation(places: *const u16, coefficients_out: *mut u8, work: *mut u8);
     vakhudle_pick(ranked: *const u16, places_out: *mut u16, work: *mut u8);
     vakhudle_rebuild(places: *const u16, symbols: *const u8, symbols_out: *mut u8, work: *mut u8);

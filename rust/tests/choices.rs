@@ -2,7 +2,7 @@
 mod common;
 use common::places::*;
 use common::{fullest_curve, Call, OwnCode, FIELDS};
-use vakhudle::plain::field::{power, product};
+use vakhudle::plain::field::product;
 use vakhudle::plain::{code, Random};
 
 /// All six operations at one choice, usable or not, and what they must have to do with one another.
@@ -66,30 +66,6 @@ fn heard_at(code: &OwnCode, random: &mut Random) {
     let few = some_places(n, random.below(k as u64) as usize, random);
     assert_eq!(Job::<Rebuild>::new(code, &few, &symbols_at(&word, &few)).run(random), Err(13));
     assert_eq!(Job::<Pick>::new(code, &few, &[]).run(random), Err(13));
-}
-
-/// The sum of two points in the curve's group; `None` is the point at infinity.
-fn sum(field: u8, [g1, g2, g3, g4, _]: [u8; 5], a: Option<(u8, u8)>, b: Option<(u8, u8)>) -> Option<(u8, u8)> {
-    let p = |a, b| product(field, a, b);
-    let over = |a, b| p(a, power(field, b, (1 << field) - 2));
-    let (Some((x1, y1)), Some((x2, y2))) = (a, b) else {
-        return a.or(b);
-    };
-    let slope = if x1 != x2 {
-        over(y1 ^ y2, x1 ^ x2)
-    } else if y2 == y1 ^ p(g1, x1) ^ g3 {
-        return None;
-    } else {
-        over(p(x1, x1) ^ g4 ^ p(g1, y1), p(g1, x1) ^ g3)
-    };
-    let x = p(slope, slope) ^ p(g1, slope) ^ g2 ^ x1 ^ x2;
-    Some((x, p(slope, x1 ^ x) ^ y1 ^ p(g1, x) ^ g3))
-}
-
-/// Places are dependent exactly if their points add up to zero.
-fn adds_up_to_zero(code: &OwnCode, places: &[u16]) -> bool {
-    let points = places.iter().map(|&p| Some((code.xs[p as usize - 1], code.ys[p as usize - 1])));
-    points.fold(None, |a, b| sum(code.field, code.curve, a, b)).is_none()
 }
 
 fn opposite(code: &OwnCode, i: usize) -> (u8, u8) {

@@ -17,7 +17,7 @@ use Rattle.curve.specs.Points.{pointsOutcome, listing}
 use Rattle.code.specs.Heard.{heardAt, heardPlaces, heardTested, heardOutcome}
 use Rattle.code.proofs.Tested.{counts-code}
 use Rattle.hours.specs.Means.{meansOutcome}
-use Rattle.coder.specs.Outcomes.{recoverOutcome, systematicFunctionOutcome, systematicWordOutcome, relationOutcome, pickOutcome, rebuildOutcome}
+use Rattle.coder.specs.Outcomes.{recoverOutcome, systematicFunctionOutcome, systematicWordOutcome, matrixOutcome, relationOutcome, pickOutcome, rebuildOutcome}
 use Rattle.blocks.specs.Outcomes.{plainTested, plainOutcome, packTested, packBlockOutcome, unpackTested, unpackBlockOutcome}
 
 -- the largest count that the C interface takes
@@ -66,6 +66,9 @@ module _ (code : Code) where
 
   pub systematic-word-counts : (J msg out work : List ℕ) → counts (answer (systematicWordOutcome code J msg out work)) ≤ most
   systematic-word-counts J msg out work = counts-code code _ most (λ h. (counts-check most _ _ _ (counts-check most _ _ _ (counts-check most _ _ _ (counts-check most _ _ _ (counts-check most _ _ _ (counts-check most _ _ _ (counts-check most _ _ _ (counts-check most _ _ _ (counts-accepted most _))))))))))
+
+  pub matrix-counts : (J out work : List ℕ) → counts (answer (matrixOutcome code J out work)) ≤ most
+  matrix-counts J out work = counts-code code _ most (λ h. (counts-check most _ _ _ (counts-check most _ _ _ (counts-check most _ _ _ (counts-check most _ _ _ (counts-check most _ _ _ (counts-check most _ _ _ (counts-accepted most _))))))))
 
   pub relation-counts : (J out work : List ℕ) → counts (answer (relationOutcome code J out work)) ≤ most
   relation-counts J out work = counts-code code _ most (λ h. (counts-check most _ _ _ (counts-check most _ _ _ (counts-check most _ _ _ (counts-check most _ _ _ (counts-check most _ _ _ (counts-check most _ _ _ (counts-accepted most _))))))))

@@ -8,7 +8,7 @@ ghost use Rattle.field.specs.Products.{productsOutcome};
 ghost use Rattle.curve.specs.Points.{pointsOutcome};
 ghost use Rattle.code.specs.Heard.{heardOutcome};
 ghost use Rattle.blocks.specs.Outcomes.{plainOutcome, packBlockOutcome, unpackBlockOutcome};
-ghost use Rattle.coder.specs.Outcomes.{recoverOutcome, systematicFunctionOutcome, systematicWordOutcome, relationOutcome, pickOutcome, rebuildOutcome};
+ghost use Rattle.coder.specs.Outcomes.{recoverOutcome, systematicFunctionOutcome, systematicWordOutcome, matrixOutcome, relationOutcome, pickOutcome, rebuildOutcome};
 ghost use Rattle.hours.specs.Means.{meansOutcome};
 ghost use Rattle.abi.specs.Arguments.{curveOf, parametersOf};
 use basics::status;
@@ -223,6 +223,29 @@ pub extern "C" fn vakhudle_systematic_word(
 {
     let parts = parameters(field, g1, g2, g3, g4, g6, k);
     status(coder::systematic_word::systematic_word(parts, xs, ys, places, message, out, work))
+}
+
+// Matrix.
+#[no_mangle]
+pub extern "C" fn vakhudle_matrix(
+    field: u8,
+    g1: u8,
+    g2: u8,
+    g3: u8,
+    g4: u8,
+    g6: u8,
+    xs: &[u8],
+    ys: &[u8],
+    k: usize,
+    places: &[u16],
+    out: &mut [u8],
+    work: &mut [u8],
+) -> i32
+    ensures { λ r. ⌜ Reports (matrixOutcome (codeOf (parametersOf field g1 g2 g3 g4 g6 k) (now (xs .entry)) (now (ys .entry))) (now (places .entry)) (now (out .entry)) (now (work .entry))) r
+        (now (out .entry), now (work .entry)) (now (out .exit), now (work .exit)) ⌝ }
+{
+    let parts = parameters(field, g1, g2, g3, g4, g6, k);
+    status(coder::matrix::matrix(parts, xs, ys, places, out, work))
 }
 
 // Relation.

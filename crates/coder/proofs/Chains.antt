@@ -20,7 +20,7 @@ use Rattle.codewords.specs.Computed.{Enough}
 use Rattle.coder.specs.Given.{Posed}
 use Rattle.coder.specs.Outcomes.{checkPlaces, checkSymbols}
 use Rattle.coder.specs.Stages.{checkLists, listsAnswer, checkPosed, posedAnswer}
-use Rattle.coder.proofs.Link.{are-different}
+use Rattle.coder.proofs.Link.{posed-enough}
 
 -- a chain that answers Done passed its first test
 done-check : (b : Bool) (e : Refusal) (u : Outcome (Unit {0})) → answer (check b e u) ≡ Done → (b ≡ true) × (answer u ≡ Done)
@@ -89,15 +89,7 @@ module _ (code : Code) (J us : List ℕ) where
 
     pub enough : codeAnswer code ≡ Done → length us ≡ length J → Enough code J us
     unfolding usable
-    enough done e =
-        let g = solvable done e in
-        record {
-          are-places = are-different (g .placed);
-          are-symbols = g .are-symbols;
-          lengths = e;
-          at-least = g .at-least;
-          works = λ full. ap (λ b. not (b && dependent code J)) (sym (eq-eqb _ _ full)) ∙ free;
-        }
+    enough done e = posed-enough (solvable done e) (λ full. ap (λ b. not (b && dependent code J)) (sym (eq-eqb _ _ full)) ∙ free)
 
   -- with k places the tests are those of Systematic function and Systematic word
   pub posed-as : {M : Type 0} (o : Outcome M) → length J ≡ code .k → checkPlaces code J (checkSymbols code us (check (usable code J) Dependent o)) ≡ checkPosed code J us o

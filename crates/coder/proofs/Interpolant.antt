@@ -36,15 +36,19 @@ take-most zero l = omega arith
 take-most (suc n) [] = omega arith
 take-most (suc n) (a ∷ l) = omega (arith, take-most n l)
 
+-- no sum of multiples is longer than the longer function
+add-most : (F : Arithmetic) (t k : ℕ) (h f : List ℕ) → length h ≤ k → length f ≤ k → length (addScaled F t h f) ≤ k
+add-most F t k h f a b =
+    elim (decLt (length f) (length h)) [
+      | yes l ↦ omega (arith, length-add-longer F t h f (omega arith))
+      | no g ↦ omega (arith, length-add F t h f (omega arith))
+    ]
+
 -- what is corrected, and made k coefficients
 module _ (F : Arithmetic) (P : Point) (v k : ℕ) (g f : List ℕ) where
   pub corrected-length : length g ≤ k → length f ≤ k → length (corrected F P v g f) ≤ k
   unfolding corrected
-  corrected-length a b =
-      elim (decLt (length f) (length g)) [
-        | yes l ↦ omega (arith, length-add-longer F _ g f (omega arith))
-        | no h ↦ omega (arith, length-add F _ g f (omega arith))
-      ]
+  corrected-length = add-most F _ k g f
 
 pub padded-holds : {f g l : List ℕ} {size k : ℕ} → Holds f size l → take k g ≡ take size f ++ replicate (k - size) 0 → k ≤ length g → Holds g k (padded k l)
 padded-holds {k = k} h e w = record { within = w; first = e ∙ ap₂ (λ a n. a ++ replicate (k - n) 0) (h .first) (sym (holds-length h)) }

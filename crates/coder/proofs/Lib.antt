@@ -5,3 +5,4 @@ pub mod Interpolant
 pub mod Chains
 pub mod Results
 pub mod Every
+pub mod Rows

@@ -1,7 +1,7 @@
 -- The tests that an operation made say that the places are different points of the curve, so the engine has room for them, and what it computes there is what the definitions say.
 use Prim.Native.Nat.{ℕ, _-_, _<_, _≤_}
 use mathlib.Core.Path.{_≡_, refl, sym, _∙_, ap, ap₂}
-use mathlib.Core.Bool.{Bool, true, cond}
+use mathlib.Core.Bool.{Bool, true, not, cond}
 use mathlib.Core.List.{List, [], _∷_, _++_, append-nil}
 use native.Mathlib.Omega.{arith}
 use borrow.Author.Tests.{eq-eqb, leb-true, lt-ltb}
@@ -17,8 +17,8 @@ use Rattle.elliptic.specs.Pair.{evaluate, padded, after}
 use Rattle.elliptic.proofs.Points.{Points}
 use Rattle.elliptic.proofs.Steps as steps
 use Rattle.codewords.specs.Code.{Code, arithmetic, n, codeAnswer}
-use Rattle.codewords.specs.Codewords.{allPlaces, placesDiffer, places as different, choice, symbols, dependent, relation}
-use Rattle.codewords.specs.Computed.{pointsOf as pointsIn, lastZero}
+use Rattle.codewords.specs.Codewords.{allPlaces, placesDiffer, places as different, choice, symbols, dependent, usable, relation}
+use Rattle.codewords.specs.Computed.{Enough, pointsOf as pointsIn, lastZero}
 use Rattle.codewords.proofs.Accepted.{Accepted, accepted-done, laws}
 use Rattle.codewords.proofs.Places.{Places, places-true, symbols-true, different-points, length-points}
 use Rattle.codewords.proofs.Coordinates as coordinates
@@ -30,7 +30,7 @@ use Rattle.engine.specs.Arrays.{Pair, Small}
 use Rattle.engine.specs.Places.{pointOf, pointsOf, Within, Runs}
 use Rattle.engine.proofs.States.{low-value}
 use Rattle.engine.proofs.Runs.{point-at, within-all, runs, small-after}
-use Rattle.coder.specs.Given.{Placed}
+use Rattle.coder.specs.Given.{Placed, Posed}
 
 -- places are below 512, so that marks can be kept for them
 pub places-below : (code : Code) (J : List ℕ) → codeAnswer code ≡ Done → allPlaces code J ≡ true → all (isBelow 512) J ≡ true
@@ -109,6 +109,10 @@ module _ {code : Code} {J : List ℕ} (p : Placed code J) where
     pub is-dependent : {r : Bool} → length J ≡ code .k → r ≡ lastZero F (code .k) (pointsIn code J) us → dependent code J ≡ r
     is-dependent e h = computed code (p .done) .dependent-by J us (is-choice e) s ∙ sym h
 
+    pub is-usable : {r : Bool} → length J ≡ code .k → r ≡ lastZero F (code .k) (pointsIn code J) us → usable code J ≡ not r
+    unfolding usable
+    is-usable e h = ap not (is-dependent e h)
+
     -- the relation of dependent places, as L stands in its array
     pub relation-low : {l u : List ℕ} {z : Sizes} → length J ≡ code .k → Pair l u z (after F pts us (code .k - 1)) → dependent code J ≡ true
         → padded (code .k) (take (z .low) (cond (z .turned) u l)) ≡ relation code J
@@ -117,3 +121,7 @@ module _ {code : Code} {J : List ℕ} (p : Placed code J) where
         let size : length low ≡ code .k = related-function code accepted are-places e (the-relation code accepted are-places e us (symbols-true code us s) d) .size in
         ap (padded (code .k)) (q .low .first ∙ ap (λ l. after F l us (code .k - 1) .low) points-same)
         ∙ padded-full (code .k) low size ∙ sym (computed code (p .done) .relation-by J us (is-choice e) s d)
+
+-- symbols at k usable places or more can be solved for
+pub posed-enough : {code : Code} {J us : List ℕ} → Posed code J us → (length J ≡ code .k → usable code J ≡ true) → Enough code J us
+posed-enough g u = record { are-places = are-different (g .placed); are-symbols = g .are-symbols; lengths = g .lengths; at-least = g .at-least; works = u }

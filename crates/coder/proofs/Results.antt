@@ -1,30 +1,29 @@
 -- What stands in the arrays after the tests is what the definitions say: the function, its codeword, and whether that agrees.
 use Prim.Native.Nat.{ℕ}
 use mathlib.Core.Path.{_≡_, sym, _∙_, ap}
-use mathlib.Core.Bool.{Bool, true}
+use mathlib.Core.Bool.{Bool, true, not, _&&_}
 use mathlib.Core.List.{List, map}
 use lib.Dec.{eqb}
 use lib.ListN.{length, take}
+use native.Mathlib.Omega.{arith}
 use borrow.Author.Tests.{eq-eqb}
 use Rattle.basics.specs.declared.Answer.the-variants.{Done}
+use Rattle.basics.specs.declared.MessageIndex.{MessageIndex}
 use Rattle.basics.specs.Lists.{same, Holds}
-use Rattle.basics.proofs.Lists.{both-true}
+use Rattle.basics.proofs.Lists.{both-true, both-left}
 use Rattle.elliptic.specs.Pair.{evaluate, padded}
 use Rattle.codewords.specs.Code.{Code, arithmetic, points, codeAnswer}
-use Rattle.codewords.specs.Codewords.{agrees, message, symbols, word, agreed, systematicWord, systematicFunction}
+use Rattle.codewords.specs.Codewords.{agrees, unitMessage, places, choice, message, symbols, word, agreed, systematicWord, systematicFunction, row, dependent, usable}
 use Rattle.codewords.specs.Computed.{Enough, pointsOf, solution}
 use Rattle.codewords.proofs.Accepted.{laws, accepted-done}
 use Rattle.codewords.proofs.Coefficients.{listed-coefficients}
 use Rattle.codewords.proofs.Places.{places-true, message-listed, word-values}
+use Rattle.codewords.proofs.Demand3.{unit-message}
 use Rattle.codewords.proofs.Computed.{computed}
-use Rattle.coder.proofs.Link.{padded-full, is-choice}
-use Rattle.coder.proofs.Chains.{solvable, enough}
-use Rattle.coder.specs.Stages.{posedAnswer}
+use Rattle.coder.specs.Given.{Works, Posed, Solving}
+use Rattle.coder.proofs.Link.{padded-full, accepted, posed-enough}
 
-module _ (code : Code) (J us : List ℕ) (done : codeAnswer code ≡ Done) (h : posedAnswer code J us ≡ Done) (l : length us ≡ length J) where
-  there : Enough code J us
-  there = enough code J us h done l
-
+module _ (code : Code) (J us : List ℕ) (done : codeAnswer code ≡ Done) (there : Enough code J us) where
   is-message : message code (solution code J us) ≡ true
   is-message = computed code done .solved-coefficients J us there
 
@@ -36,15 +35,19 @@ module _ (code : Code) (J us : List ℕ) (done : codeAnswer code ≡ Done) (h : 
   module _ (full : length J ≡ code .k) where
     given : message code us ≡ true
     unfolding message
-    given = both-true (symbols code us) (eqb (length us) (code .k)) (there .are-symbols) (eq-eqb _ _ (l ∙ full))
+    given = both-true (symbols code us) (eqb (length us) (code .k)) (there .are-symbols) (eq-eqb _ _ (there .lengths ∙ full))
+
+    is-choice : choice code J ≡ true
+    unfolding choice
+    is-choice = both-true (places code J) (eqb (length J) (code .k)) (there .are-places) (eq-eqb _ _ full)
 
     pub the-function : {f : List ℕ} {n : ℕ} → n ≡ code .k → Holds f (code .k) (solution code J us) → padded n (take (code .k) f) ≡ systematicFunction code J us
     the-function {f} e w =
         ap (λ k. padded k (take (code .k) f)) e ∙ ap (padded (code .k)) (w .first) ∙ padded-full (code .k) (solution code J us) (message-listed code (solution code J us) is-message .size)
-        ∙ sym (computed code done .function-by J us (is-choice (solvable code J us h done l .placed) full) given (there .works full))
+        ∙ sym (computed code done .function-by J us is-choice given (there .works full))
 
     pub the-word : {f : List ℕ} → Holds f (code .k) (solution code J us) → map (evaluate (arithmetic code) (take (code .k) f)) (points code) ≡ systematicWord code J us
-    the-word w = by-values w ∙ sym (computed code done .systematic-by J us (is-choice (solvable code J us h done l .placed) full) given (there .works full))
+    the-word w = by-values w ∙ sym (computed code done .systematic-by J us is-choice given (there .works full))
 
   -- k places or more
   pub agreed-by : {f : List ℕ} {r : Bool} → Holds f (code .k) (solution code J us) → r ≡ same (map (evaluate (arithmetic code) (take (code .k) f)) (pointsOf code J)) us → agreed code J us ≡ r
@@ -56,3 +59,29 @@ module _ (code : Code) (J us : List ℕ) (done : codeAnswer code ≡ Done) (h : 
 
   pub rebuilt : {f : List ℕ} → Holds f (code .k) (solution code J us) → agreed code J us ≡ true → map (evaluate (arithmetic code) (take (code .k) f)) (points code) ≡ systematicWord code J us
   rebuilt w t = by-values w ∙ sym (computed code done .rebuilt-word-by J us there t)
+
+-- a row of Matrix: what was solved for with a unit message
+module _ {code : Code} {J : List ℕ} (w : Works code J) (i : MessageIndex) where
+  abbrev unit : List ℕ
+  unit = unitMessage (code .k) i
+
+  unit-listed : (symbols code unit ≡ true) × (length unit ≡ length J)
+  unfolding message
+  unit-listed =
+      let m = unit-message code (accepted (w .placed)) (i .0) in
+      let l = message-listed code unit m in
+      (both-left (symbols code unit) (eqb (length unit) (code .k)) m, l .size ∙ sym (w .full))
+
+  pub unit-length : length unit ≡ code .k
+  unit-length = unit-listed .1 ∙ w .full
+
+  pub posed-unit : Posed code J unit
+  posed-unit = record { placed = w .placed; are-symbols = unit-listed .0; lengths = unit-listed .1; at-least = omega (arith, w .full) }
+
+  pub unit-solved : {f : List ℕ} {r : Bool} → Solving code J unit f r → Holds f (code .k) (solution code J unit)
+  unfolding usable
+  unit-solved s = s .holds (s .free ∙ ap (λ b. not (b && dependent code J)) (eq-eqb _ _ (w .full)) ∙ w .works)
+
+  pub the-row : {f : List ℕ} → Holds f (code .k) (solution code J unit) → map (evaluate (arithmetic code) (take (code .k) f)) (points code) ≡ row code J i
+  unfolding row
+  the-row = the-word code J unit (w .placed .done) (posed-enough posed-unit (λ e. w .works)) (w .full)

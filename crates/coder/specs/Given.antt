@@ -9,7 +9,7 @@ use Rattle.basics.specs.declared.Answer.{Answer}
 use Rattle.basics.specs.declared.Answer.the-variants.{Done}
 use Rattle.basics.specs.Lists.{Holds}
 use Rattle.codewords.specs.Code.{Code, codeAnswer}
-use Rattle.codewords.specs.Codewords.{allPlaces, placesDiffer, symbols, dependent}
+use Rattle.codewords.specs.Codewords.{allPlaces, placesDiffer, symbols, dependent, usable}
 use Rattle.codewords.specs.Computed.{solution}
 use Rattle.coder.specs.Stages.{posedAnswer}
 
@@ -18,6 +18,12 @@ pub record Placed (code : Code) (J : List ℕ) : Type 0 where
   pub done : codeAnswer code ≡ Done
   pub all-places : allPlaces code J ≡ true
   pub differ : placesDiffer code J ≡ true
+
+-- a choice that works: k of them that are not dependent
+pub record Works (code : Code) (J : List ℕ) : Type 0 where
+  pub placed : Placed code J
+  pub full : length J ≡ code .k
+  pub works : usable code J ≡ true
 
 -- k of them or more, with their symbols
 pub record Posed (code : Code) (J us : List ℕ) : Type 0 where

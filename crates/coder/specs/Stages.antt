@@ -1,6 +1,6 @@
 -- The outcomes of specs/Outcomes.antt from a later test on: of a code that passed its test, and of lists that passed theirs.
 use Prim.{Unit, tt}
-use Prim.Native.Nat.{ℕ, _+_}
+use Prim.Native.Nat.{ℕ, _+_, _*_}
 use mathlib.Core.Bool.{not, _&&_}
 use mathlib.Core.List.{List}
 use lib.Dec.{eqb, leb}
@@ -9,8 +9,8 @@ use Rattle.basics.specs.declared.Refusal.the-variants.{Length, Dependent, TooFe
 use Rattle.basics.specs.declared.Answer.{Answer}
 use Rattle.basics.specs.Outcome.{Outcome, accepted, check, answer}
 use Rattle.codewords.specs.Code.{Code, n}
-use Rattle.codewords.specs.Codewords.{codeword, recovered, agreed, systematicFunction, systematicWord, dependent, usable, relation, pick}
-use Rattle.coder.specs.Outcomes.{Lent, cleared, checkLength, checkRoom, checkPlaces, checkSymbols}
+use Rattle.codewords.specs.Codewords.{codeword, recovered, agreed, systematicFunction, systematicWord, matrix, dependent, usable, relation, pick}
+use Rattle.coder.specs.Outcomes.{Lent, cleared, joined, checkLength, checkRoom, checkPlaces, checkSymbols}
 
 -- the place with an index in the list of all
 abbrev pub placeAt : ℕ → ℕ
@@ -26,6 +26,16 @@ module _ (code : Code) where
 
   abbrev pub relationTested : List ℕ → List ℕ → List ℕ → Outcome Lent
   relationTested J out work = checkLength J (code .k) (checkLength out (code .k) (checkRoom work (relationPlaced J work)))
+
+  -- Matrix
+  abbrev pub matrixRun : List ℕ → List ℕ → Outcome Lent
+  matrixRun J work = check (usable code J) Dependent (accepted (joined (matrix code J), cleared work))
+
+  abbrev pub matrixPlaced : List ℕ → List ℕ → Outcome Lent
+  matrixPlaced J work = checkPlaces code J (matrixRun J work)
+
+  abbrev pub matrixTested : List ℕ → List ℕ → List ℕ → Outcome Lent
+  matrixTested J out work = checkLength J (code .k) (checkLength out (code .k * n code) (checkRoom work (matrixPlaced J work)))
 
   -- Pick
   abbrev pub pickRun : List ℕ → List ℕ → Outcome Lent

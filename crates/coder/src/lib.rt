@@ -1,5 +1,6 @@
 // The operations over the interpolation engine.
 pub mod look;
+pub mod matrix;
 pub mod pick;
 pub mod prepare;
 pub mod rebuild;
@@ -8,5 +9,6 @@ pub mod relation;
 pub mod solve;
 pub mod systematic_function;
 pub mod systematic_word;
+pub mod unit_rows;
 pub mod words;
 pub mod work;

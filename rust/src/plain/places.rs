@@ -166,6 +166,29 @@ pub fn systematic_word(code: &Code, places: &[u16], message: &[u8], symbols_out:
     accept(&word(code, &function(code, places, message)?), symbols_out, work)
 }
 
+/// The generator matrix, a row for each monomial and a column for each place, is eliminated until the chosen columns are those of the unit matrix.
+pub fn matrix(code: &Code, places: &[u16], symbols_out: &mut [u8], work: &mut [u8]) -> Answer {
+    check(code)?;
+    let (field, n, k) = (code.field, code.xs.len(), code.k);
+    if places.len() != k || symbols_out.len() != k * n || work.len() < WORKING_SPACE {
+        return Err(8);
+    }
+    check_places(code, places)?;
+    let mut rows: Vec<Vec<u8>> = (0..k).map(|j| (0..n).map(|i| monomial(field, j, code.xs[i], code.ys[i])).collect()).collect();
+    for (i, &p) in places.iter().enumerate() {
+        let column = p as usize - 1;
+        let found = (i..k).find(|&j| rows[j][column] != 0).ok_or(12)?;
+        rows.swap(i, found);
+        let inverse = power(field, rows[i][column], (1 << field) - 2);
+        rows[i].iter_mut().for_each(|c| *c = product(field, inverse, *c));
+        let row = rows[i].clone();
+        for j in (0..k).filter(|&j| j != i) {
+            clear(field, &mut rows[j], column, &row);
+        }
+    }
+    accept(&rows.concat(), symbols_out, work)
+}
+
 pub fn relation(code: &Code, places: &[u16], coefficients_out: &mut [u8], work: &mut [u8]) -> Answer {
     check(code)?;
     if [places.len(), coefficients_out.len()] != [code.k; 2] || work.len() < WORKING_SPACE {

@@ -2,13 +2,14 @@
 use super::{above, agree_with_work, other_length, Call, Filler, OwnCode};
 use std::fmt::Debug;
 use std::marker::PhantomData;
+use vakhudle::plain::field::{power, product};
 use vakhudle::plain::{code, curve, fast, places as simple, Random};
 use vakhudle::{Answer, Code, WORKING_SPACE};
 
 /// An implementation of an operation on a code: places, symbols, the output, the working space.
 pub type Run<T> = fn(&Code, &[u16], &[u8], &mut [T], &mut [u8]) -> Answer;
 
-/// One of the six operations.
+/// One of the seven operations.
 pub trait Operation: Clone + Debug {
     type Out: Filler + 'static;
     /// The refusals in the order in which they are sought.
@@ -53,6 +54,12 @@ operations! {
     Function: u8, [1, 2, 3, 4, 5, 6, 7, 8, 9, 10, 11, 12], |code| code.k, [vakhudle::systematic_function, simple::systematic_function];
     Word: u8, [1, 2, 3, 4, 5, 6, 7, 8, 9, 10, 11, 12], OwnCode::n,
         [vakhudle::systematic_word, simple::systematic_word, fast::systematic_word];
+    Matrix: u8, [1, 2, 3, 4, 5, 6, 7, 8, 9, 10, 12], |code| code.k * code.n(),
+        [
+            |code, places, _, out, work| vakhudle::matrix(code, places, out, work),
+            |code, places, _, out, work| simple::matrix(code, places, out, work),
+            |code, places, _, out, work| fast::matrix(code, places, out, work),
+        ];
     Relation: u8, [1, 2, 3, 4, 5, 6, 7, 8, 9, 10, 15], |code| code.k,
         [|code, places, _, out, work| vakhudle::relation(code, places, out, work), |code, places, _, out, work| simple::relation(code, places, out, work)];
     Pick: u16, [1, 2, 3, 4, 5, 6, 7, 8, 9, 10, 13, 12], |code| code.k,
@@ -270,4 +277,28 @@ pub fn whole_codes(field: u8, filter: impl Fn(u32) -> bool) -> impl Iterator<Ite
         let code = OwnCode::whole(field, curve, 1);
         (!curve::is_singular(field, curve) && code.n() >= 2).then_some(code)
     })
+}
+
+/// The sum of two points in the curve's group; `None` is the point at infinity.
+fn sum(field: u8, [g1, g2, g3, g4, _]: [u8; 5], a: Option<(u8, u8)>, b: Option<(u8, u8)>) -> Option<(u8, u8)> {
+    let p = |a, b| product(field, a, b);
+    let over = |a, b| p(a, power(field, b, (1 << field) - 2));
+    let (Some((x1, y1)), Some((x2, y2))) = (a, b) else {
+        return a.or(b);
+    };
+    let slope = if x1 != x2 {
+        over(y1 ^ y2, x1 ^ x2)
+    } else if y2 == y1 ^ p(g1, x1) ^ g3 {
+        return None;
+    } else {
+        over(p(x1, x1) ^ g4 ^ p(g1, y1), p(g1, x1) ^ g3)
+    };
+    let x = p(slope, slope) ^ p(g1, slope) ^ g2 ^ x1 ^ x2;
+    Some((x, p(slope, x1 ^ x) ^ y1 ^ p(g1, x) ^ g3))
+}
+
+/// Places are dependent exactly if their points add up to zero.
+pub fn adds_up_to_zero(code: &OwnCode, places: &[u16]) -> bool {
+    let points = places.iter().map(|&p| Some((code.xs[p as usize - 1], code.ys[p as usize - 1])));
+    points.fold(None, |a, b| sum(code.field, code.curve, a, b)).is_none()
 }

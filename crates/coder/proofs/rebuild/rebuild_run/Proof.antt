@@ -9,7 +9,7 @@ use Rattle.basics.proofs.Outcomes.{pass, refuse, accept-pair}
 use Rattle.codewords.specs.Code.{codeOf}
 use Rattle.codewords.specs.Computed.{solution}
 use Rattle.coder.specs.Stages.{posedAnswer}
-use Rattle.coder.proofs.Chains.{posed-go, posed-stop, solvable}
+use Rattle.coder.proofs.Chains.{posed-go, posed-stop, solvable, enough}
 use Rattle.coder.proofs.Results.{agreed-by, rebuilt}
 use borrow.Author.Needs.{needs}
 use Rattle.coder.proofs.rebuild.rebuild_run.Statement.{statement}
@@ -41,7 +41,7 @@ returns : tie.Need-returns
 returns c =
     let s = c .before .before .before .before .before .before .before .before .before .before .before .before .before .before .before .before in
     let at = c .before .before .before in
-    posed-go _ _ _ (passed at) _ (refuse _ (agreed-by _ _ _ (s .pre .0) (passed at) (s .pre .1 .0) (holds at) (c .before .agrees-all .ensures) ∙ not-true _ (c .if1 .taken)))
+    posed-go _ _ _ (passed at) _ (refuse _ (agreed-by _ _ _ (s .pre .0) (enough _ _ _ (passed at) (s .pre .0) (s .pre .1 .0)) (holds at) (c .before .agrees-all .ensures) ∙ not-true _ (c .if1 .taken)))
 
 put-word-requires : tie.Need-put-word-requires
 put-word-requires c κs = let s = c .before .before .before .before .before .before .before .before .before .before .before .before .before .before .before .before .before .before in (s .pre .0, (holds (c .before .before .before .before .before) .within, s .pre .1 .1))
@@ -62,8 +62,8 @@ returns-2 : tie.Need-returns-2
 returns-2 c =
     let s = c .before .before .before .before .before .before .before .before .before .before .before .before .before .before .before .before .before .before .before .before .before .before .before .before .before in
     let at = c .before .before .before .before .before .before .before .before .before .before .before .before in
-    let t = agreed-by _ _ _ (s .pre .0) (passed at) (s .pre .1 .0) (holds at) (c .before .before .before .before .before .before .before .before .before .before .agrees-all .ensures) ∙ not-false _ (c .before .before .before .before .before .before .before .before .before .if1 .left) in
-    posed-go _ _ _ (passed at) _ (pass _ t (accept-pair (c .before .before .before .before .before .before .put-word .ensures ∙ rebuilt _ _ _ (s .pre .0) (passed at) (s .pre .1 .0) (holds at) t) (c .before .before .clear-room .ensures)))
+    let t = agreed-by _ _ _ (s .pre .0) (enough _ _ _ (passed at) (s .pre .0) (s .pre .1 .0)) (holds at) (c .before .before .before .before .before .before .before .before .before .before .agrees-all .ensures) ∙ not-false _ (c .before .before .before .before .before .before .before .before .before .if1 .left) in
+    posed-go _ _ _ (passed at) _ (pass _ t (accept-pair (c .before .before .before .before .before .before .put-word .ensures ∙ rebuilt _ _ _ (s .pre .0) (enough _ _ _ (passed at) (s .pre .0) (s .pre .1 .0)) (holds at) t) (c .before .before .clear-room .ensures)))
 
 same-length-5 : tie.Need-same-length-5
 same-length-5 c = search needs

@@ -8,7 +8,7 @@ use Rattle.basics.proofs.Outcomes.{accept-pair}
 use Rattle.codewords.specs.Code.{codeOf}
 use Rattle.codewords.specs.Computed.{solution}
 use Rattle.coder.specs.Stages.{posedAnswer}
-use Rattle.coder.proofs.Chains.{posed-go, posed-stop}
+use Rattle.coder.proofs.Chains.{posed-go, posed-stop, enough}
 use Rattle.coder.proofs.Results.{the-word}
 use borrow.Author.Needs.{needs}
 use Rattle.coder.proofs.systematic_word.systematic_word_run.Statement.{statement}
@@ -46,7 +46,7 @@ returns : tie.Need-returns
 returns c =
     let s = c .before .before .before .before .before .before .before .before .before .before .before .before .before .before .before .before .before .before .before .before .before .before in
     let at = c .before .before .before .before .before .before .before .before .before in
-    posed-go _ _ _ (passed at) _ (accept-pair (c .before .before .before .before .before .before .put-word .ensures ∙ the-word _ _ _ (s .pre .0) (passed at) (s .pre .1 .1 ∙ sym (s .pre .1 .0)) (s .pre .1 .0) (holds at)) (c .before .before .clear-room .ensures))
+    posed-go _ _ _ (passed at) _ (accept-pair (c .before .before .before .before .before .before .put-word .ensures ∙ the-word _ _ _ (s .pre .0) (enough _ _ _ (passed at) (s .pre .0) (s .pre .1 .1 ∙ sym (s .pre .1 .0))) (s .pre .1 .0) (holds at)) (c .before .before .clear-room .ensures))
 
 same-length-4 : tie.Need-same-length-4
 same-length-4 c = search needs
