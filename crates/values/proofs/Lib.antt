@@ -2,4 +2,3 @@
 pub mod Sweeps
 pub mod Steps
 pub mod Runs
-pub mod Adding

@@ -1,3 +1,2 @@
 -- What the arrays of values hold.
 pub mod Values
-pub mod Factors
