@@ -11,13 +11,13 @@ use borrow.Author.Tests.{leb-true, le-leb, eq-eqb}
 use Rattle.basics.specs.declared.Refusal.{Refusal}
 use Rattle.basics.specs.declared.Refusal.the-variants.{Dependent, TooFew}
 use Rattle.basics.specs.declared.Answer.{Answer}
-use Rattle.basics.specs.declared.Answer.the-variants.{Done}
+use Rattle.basics.specs.declared.Answer.the-variants.{Done, Refused}
 use Rattle.basics.specs.Outcome.{Outcome, accepted, check, answer, left, Meets}
-use Rattle.basics.proofs.Outcomes.{check-true, pass}
+use Rattle.basics.proofs.Outcomes.{check-true, pass, refuse, accept}
 use Rattle.codewords.specs.Code.{Code, codeAnswer}
 use Rattle.codewords.specs.Codewords.{allPlaces, placesDiffer, symbols, dependent, usable}
 use Rattle.codewords.specs.Computed.{Enough}
-use Rattle.coder.specs.Given.{Posed}
+use Rattle.coder.specs.Given.{Posed, Solving, Prepared}
 use Rattle.coder.specs.Outcomes.{checkPlaces, checkSymbols}
 use Rattle.coder.specs.Stages.{checkLists, listsAnswer, checkPosed, posedAnswer}
 use Rattle.coder.proofs.Link.{posed-enough}
@@ -75,6 +75,22 @@ module _ (code : Code) (J us : List ℕ) where
 
     pub posed : codeAnswer code ≡ Done → length us ≡ length J → Posed code J us
     posed = posed-by (passed-all (accepted tt) h .0)
+
+  -- what a solver says, as the answer of all tests up to number 12
+  module _ {claim : Type 0} where
+    pub prepared-not : listsAnswer code J us ≡ Done → {r : Bool} → Solving code J claim r → r ≡ false → Prepared code J us claim (Refused Dependent)
+    prepared-not h s e =
+        record {
+          answers = lists-go h _ (refuse _ {old = tt} (sym (s .free) ∙ e)) .answers;
+          holds = λ d. let z : _≡_ {A = ℕ} 0 1 = cc in absurd (omega arith);
+        }
+
+    pub prepared-done : listsAnswer code J us ≡ Done → {r : Bool} → Solving code J claim r → r ≡ true → Prepared code J us claim Done
+    prepared-done h s e =
+        record { answers = lists-go h _ (pass _ {old = tt} {new = tt} (sym (s .free) ∙ e) (accept refl)) .answers; holds = λ d. s .holds e }
+
+    pub prepared-stop : {r : Answer} → r ≡ listsAnswer code J us → (r ≡ Done → ⊥) → Prepared code J us claim r
+    prepared-stop e d = record { answers = lists-stop {old = tt} _ e d .answers; holds = λ h. absurd (d h) }
 
   module _ (h : posedAnswer code J us ≡ Done) where
     free : not (eqb (length J) (code .k) && dependent code J) ≡ true

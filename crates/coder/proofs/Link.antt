@@ -9,7 +9,7 @@ use lib.Dec.{eqb, leb}
 use lib.ListN.{length, getD, take, replicate}
 use Rattle.basics.specs.declared.Answer.the-variants.{Done}
 use Rattle.basics.specs.Lists.{all}
-use Rattle.basics.proofs.Lists.{both-true, both-right, all-weaker}
+use Rattle.basics.proofs.Lists.{both-true, both-left, both-right, all-get, all-weaker}
 use Rattle.field.specs.Field.{Arithmetic}
 use Rattle.elliptic.specs.declared.Point.{Point}
 use Rattle.elliptic.specs.Curve.{point}
@@ -20,7 +20,7 @@ use Rattle.codewords.specs.Code.{Code, arithmetic, n, codeAnswer}
 use Rattle.codewords.specs.Codewords.{allPlaces, placesDiffer, places as different, choice, symbols, dependent, usable, relation}
 use Rattle.codewords.specs.Computed.{Enough, pointsOf as pointsIn, lastZero}
 use Rattle.codewords.proofs.Accepted.{Accepted, accepted-done, laws}
-use Rattle.codewords.proofs.Places.{Places, places-true, symbols-true, different-points, length-points}
+use Rattle.codewords.proofs.Places.{Places, places-true, symbols-true, different-points, length-points, n-points, all-at}
 use Rattle.codewords.proofs.Coordinates as coordinates
 use Rattle.codewords.proofs.Choice.{the-relation, related-function}
 use Rattle.codewords.proofs.Computed.{computed}
@@ -30,6 +30,7 @@ use Rattle.engine.specs.Arrays.{Pair, Small}
 use Rattle.engine.specs.Places.{pointOf, pointsOf, Within, Runs}
 use Rattle.engine.proofs.States.{low-value}
 use Rattle.engine.proofs.Runs.{point-at, within-all, runs, small-after}
+use Rattle.values.specs.Values.{ShownIn, Coordinates}
 use Rattle.coder.specs.Given.{Placed, Posed}
 
 -- places are below 512, so that marks can be kept for them
@@ -37,6 +38,14 @@ pub places-below : (code : Code) (J : List ℕ) → codeAnswer code ≡ Done →
 unfolding allPlaces
 places-below code J h e =
     all-weaker (isPlace (n code)) (isBelow 512) J (λ a t. lt-ltb a 512 (omega (arith, leb-true a (n code) (both-right (leb 1 a) (leb a (n code)) t), accepted-done code h .n-most))) e
+
+-- a place of n, and its index
+pub place-at : (n : ℕ) (J : List ℕ) → all (isPlace n) J ≡ true → (i : ℕ) → i < length J → (1 ≤ getD J i 0) × (getD J i 0 - 1 < n)
+place-at n J h i l =
+    let p = getD J i 0 in
+    let t = all-get (isPlace n) J 0 i h l in
+    let least = leb-true 1 p (both-left (leb 1 p) (leb p n) t) in
+    (least, omega (arith, least, leb-true p n (both-right (leb 1 p) (leb p n) t)))
 
 -- k coefficients need no zeros
 pub padded-full : (k : ℕ) (f : List ℕ) → length f ≡ k → padded k f ≡ f
@@ -87,6 +96,26 @@ module _ {code : Code} {J : List ℕ} (p : Placed code J) where
   unfolding allPlaces
   within count h = within-all count (sym (accepted .lengths)) (p .all-places) h
 
+  pub all-in : (f : List ℕ) → length f ≡ n code → all (isPlace (length f)) J ≡ true
+  unfolding allPlaces
+  all-in f e = rw e (p .all-places)
+
+  pub k-fits : code .k ≤ 288
+  k-fits = omega (arith, accepted .k-most, accepted .n-most)
+
+  -- the index of the coordinates of the i-th place
+  pub index-in : (i : ℕ) → i < length J → getD J i 0 - 1 < length (code .xs)
+  index-in i h = place-at (n code) J (all-in (code .xs) refl) i h .1
+
+  pub code-coordinates : Coordinates (code .field) (code .xs) (code .ys)
+  code-coordinates =
+      record {
+        as-many = sym (accepted .lengths);
+        below = λ i h.
+            let on = all-at (point 0 0) (accepted .different .on) i (omega (arith, n-points code accepted)) in
+            rw (coordinates.points-get (code .xs) (code .ys) (accepted .lengths) i) at (on .y-lt);
+      }
+
   module _ (us : List ℕ) (s : symbols code us ≡ true) where
     pub may-run : (count : ℕ) → count ≤ code .k → count ≤ length J → Runs (code .field) (code .xs) (code .ys) J us count
     may-run count k h = runs (accepted .field) (code .xs) (code .ys) J on-curve (symbols-true code us s) (omega (arith, accepted .k-most, accepted .n-most)) (within count h)
@@ -97,14 +126,23 @@ module _ {code : Code} {J : List ℕ} (p : Placed code J) where
     pub sizes : (i : ℕ) → i ≤ length J → steps.Sizes F i (after F pts us i)
     sizes i h = rw points-same (steps.after-sizes (laws code accepted) (different-points code accepted are-places) (symbols-true code us s) i (omega (arith, length-points code J)))
 
-    -- whether L is zero at the last of k places
+    -- whether L is zero at the last of k places: by its value there, by its coefficients, and by its values at all points
+    pub zero-by : {v : ℕ} {r : Bool} → code .k ≤ length J → v ≡ evaluate F (after F pts us (code .k - 1) .low) (pointOf (code .xs) (code .ys) (getD J (code .k - 1) 0)) → r ≡ eqb v 0
+        → r ≡ lastZero F (code .k) (pointsIn code J) us
+    unfolding lastZero
+    zero-by h q e =
+        e ∙ ap (λ v. eqb v 0)
+        (q ∙ ap₂ (λ l P. evaluate F (after F l us (code .k - 1) .low) P) points-same (chosen (code .k - 1) (omega (arith, accepted .k-least))))
+
     pub zero-last : {l u : List ℕ} {z : Sizes} {r : Bool} → code .k ≤ length J → Pair l u z (after F pts us (code .k - 1))
         → r ≡ eqb (evaluate F (take (z .low) (cond (z .turned) u l)) (pointOf (code .xs) (code .ys) (getD J (code .k - 1) 0))) 0
         → r ≡ lastZero F (code .k) (pointsIn code J) us
-    unfolding lastZero
-    zero-last h q e =
-        e ∙ ap (λ v. eqb v 0)
-        (low-value q F _ ∙ ap₂ (λ l P. evaluate F (after F l us (code .k - 1) .low) P) points-same (chosen (code .k - 1) (omega (arith, accepted .k-least))))
+    zero-last h q e = zero-by h (low-value q F _) e
+
+    pub zero-shown : (l u : List ℕ) (z : Sizes) {j : ℕ} {r : Bool} → code .k ≤ length J → ShownIn (code .field) (code .xs) (code .ys) 0 l u z (after F pts us (code .k - 1))
+        → j ≡ getD J (code .k - 1) 0 - 1 → r ≡ eqb (getD (cond (z .turned) u l) j 0) 0 → r ≡ lastZero F (code .k) (pointsIn code J) us
+    zero-shown l u z h q d e =
+        zero-by h (ap (λ j. getD (cond (z .turned) u l) j 0) d ∙ q .low-values .at (getD J (code .k - 1) 0 - 1) (omega arith) (index-in (code .k - 1) (omega (arith, accepted .k-least)))) e
 
     pub is-dependent : {r : Bool} → length J ≡ code .k → r ≡ lastZero F (code .k) (pointsIn code J) us → dependent code J ≡ r
     is-dependent e h = computed code (p .done) .dependent-by J us (is-choice e) s ∙ sym h

@@ -2,25 +2,23 @@
 use Prim.Native.Nat.{ℕ}
 use mathlib.Core.Path.{_≡_, sym, _∙_, ap}
 use mathlib.Core.Bool.{Bool, true, not, _&&_}
-use mathlib.Core.List.{List, map}
+use mathlib.Core.List.{List}
 use lib.Dec.{eqb}
 use lib.ListN.{length, take}
+use lib.Seq.{take-all}
 use native.Mathlib.Omega.{arith}
 use borrow.Author.Tests.{eq-eqb}
 use Rattle.basics.specs.declared.Answer.the-variants.{Done}
 use Rattle.basics.specs.declared.MessageIndex.{MessageIndex}
-use Rattle.basics.specs.Lists.{same, Holds}
 use Rattle.basics.proofs.Lists.{both-true, both-left}
-use Rattle.elliptic.specs.Pair.{evaluate, padded}
-use Rattle.codewords.specs.Code.{Code, arithmetic, points, codeAnswer}
+use Rattle.elliptic.specs.Pair.{padded}
+use Rattle.codewords.specs.Code.{Code, codeAnswer}
 use Rattle.codewords.specs.Codewords.{agrees, unitMessage, places, choice, message, symbols, word, agreed, systematicWord, systematicFunction, row, dependent, usable}
-use Rattle.codewords.specs.Computed.{Enough, pointsOf, solution}
-use Rattle.codewords.proofs.Accepted.{laws, accepted-done}
-use Rattle.codewords.proofs.Coefficients.{listed-coefficients}
-use Rattle.codewords.proofs.Places.{places-true, message-listed, word-values}
-use Rattle.codewords.proofs.Demand3.{unit-message}
+use Rattle.codewords.specs.Computed.{Enough, solution}
+use Rattle.codewords.proofs.Places.{message-listed}
 use Rattle.codewords.proofs.Computed.{computed}
-use Rattle.coder.specs.Given.{Works, Posed, Solving}
+use Rattle.codewords.proofs.Demand3.{unit-message}
+use Rattle.coder.specs.Given.{Works, Posed, Solving, HoldsFunction, solvedWord}
 use Rattle.coder.proofs.Link.{padded-full, accepted, posed-enough}
 
 module _ (code : Code) (J us : List ℕ) (done : codeAnswer code ≡ Done) (there : Enough code J us) where
@@ -28,8 +26,8 @@ module _ (code : Code) (J us : List ℕ) (done : codeAnswer code ≡ Done) (ther
   is-message = computed code done .solved-coefficients J us there
 
   -- the word of the function
-  by-values : {f : List ℕ} → Holds f (code .k) (solution code J us) → map (evaluate (arithmetic code) (take (code .k) f)) (points code) ≡ word code (solution code J us)
-  by-values w = ap (λ g. map (evaluate (arithmetic code) g) (points code)) (w .first) ∙ sym (computed code done .word-by (solution code J us) is-message)
+  by-values : solvedWord code J us ≡ word code (solution code J us)
+  by-values = sym (computed code done .word-by (solution code J us) is-message)
 
   -- k places
   module _ (full : length J ≡ code .k) where
@@ -41,24 +39,20 @@ module _ (code : Code) (J us : List ℕ) (done : codeAnswer code ≡ Done) (ther
     unfolding choice
     is-choice = both-true (places code J) (eqb (length J) (code .k)) (there .are-places) (eq-eqb _ _ full)
 
-    pub the-function : {f : List ℕ} {n : ℕ} → n ≡ code .k → Holds f (code .k) (solution code J us) → padded n (take (code .k) f) ≡ systematicFunction code J us
+    pub the-function : {f : List ℕ} {n : ℕ} → n ≡ code .k → HoldsFunction code J us f → padded n (take (code .k) f) ≡ systematicFunction code J us
     the-function {f} e w =
         ap (λ k. padded k (take (code .k) f)) e ∙ ap (padded (code .k)) (w .first) ∙ padded-full (code .k) (solution code J us) (message-listed code (solution code J us) is-message .size)
         ∙ sym (computed code done .function-by J us is-choice given (there .works full))
 
-    pub the-word : {f : List ℕ} → Holds f (code .k) (solution code J us) → map (evaluate (arithmetic code) (take (code .k) f)) (points code) ≡ systematicWord code J us
-    the-word w = by-values w ∙ sym (computed code done .systematic-by J us is-choice given (there .works full))
+    pub the-word : {v : List ℕ} → v ≡ solvedWord code J us → v ≡ systematicWord code J us
+    the-word w = w ∙ by-values ∙ sym (computed code done .systematic-by J us is-choice given (there .works full))
 
   -- k places or more
-  pub agreed-by : {f : List ℕ} {r : Bool} → Holds f (code .k) (solution code J us) → r ≡ same (map (evaluate (arithmetic code) (take (code .k) f)) (pointsOf code J)) us → agreed code J us ≡ r
-  unfolding agrees
-  agreed-by w e =
-      let under = listed-coefficients (laws code (accepted-done code done)) (message-listed code (solution code J us) is-message) .under in
-      computed code done .rebuilt-by J us there ∙ ap (λ m. same m us) (word-values code (accepted-done code done) under (places-true code J (there .are-places) .spots))
-      ∙ sym (e ∙ ap (λ g. same (map (evaluate (arithmetic code) g) (pointsOf code J)) us) (w .first))
+  pub agreed-by : {v : List ℕ} {r : Bool} → v ≡ solvedWord code J us → r ≡ agrees v J us → agreed code J us ≡ r
+  agreed-by w e = computed code done .rebuilt-by J us there ∙ ap (λ v. agrees v J us) (sym (w ∙ by-values)) ∙ sym e
 
-  pub rebuilt : {f : List ℕ} → Holds f (code .k) (solution code J us) → agreed code J us ≡ true → map (evaluate (arithmetic code) (take (code .k) f)) (points code) ≡ systematicWord code J us
-  rebuilt w t = by-values w ∙ sym (computed code done .rebuilt-word-by J us there t)
+  pub rebuilt : {v : List ℕ} → v ≡ solvedWord code J us → agreed code J us ≡ true → v ≡ systematicWord code J us
+  rebuilt w t = w ∙ by-values ∙ sym (computed code done .rebuilt-word-by J us there t)
 
 -- a row of Matrix: what was solved for with a unit message
 module _ {code : Code} {J : List ℕ} (w : Works code J) (i : MessageIndex) where
@@ -78,10 +72,12 @@ module _ {code : Code} {J : List ℕ} (w : Works code J) (i : MessageIndex) wher
   pub posed-unit : Posed code J unit
   posed-unit = record { placed = w .placed; are-symbols = unit-listed .0; lengths = unit-listed .1; at-least = omega (arith, w .full) }
 
-  pub unit-solved : {f : List ℕ} {r : Bool} → Solving code J unit f r → Holds f (code .k) (solution code J unit)
-  unfolding usable
-  unit-solved s = s .holds (s .free ∙ ap (λ b. not (b && dependent code J)) (eq-eqb _ _ (w .full)) ∙ w .works)
+  pub the-row : {v : List ℕ} {r : Bool} → Solving code J (v ≡ solvedWord code J unit) r → v ≡ row code J i
+  unfolding row usable
+  the-row s =
+      the-word code J unit (w .placed .done) (posed-enough posed-unit (λ e. w .works)) (w .full)
+      (s .holds (s .free ∙ ap (λ b. not (b && dependent code J)) (eq-eqb _ _ (w .full)) ∙ w .works))
 
-  pub the-row : {f : List ℕ} → Holds f (code .k) (solution code J unit) → map (evaluate (arithmetic code) (take (code .k) f)) (points code) ≡ row code J i
-  unfolding row
-  the-row = the-word code J unit (w .placed .done) (posed-enough posed-unit (λ e. w .works)) (w .full)
+-- a word that is written to a list of its length
+pub whole-word : {n m : ℕ} (v : List ℕ) → length v ≡ n → m ≡ n → padded m (take n v) ≡ v
+whole-word {n} v e d = rw (take-all n v (omega arith), d) (padded-full n v e)

@@ -1,12 +1,15 @@
 // The operations over the interpolation engine.
+pub mod last_zero;
 pub mod look;
 pub mod matrix;
 pub mod pick;
 pub mod prepare;
+pub mod prepare_word;
 pub mod rebuild;
 pub mod recover;
 pub mod relation;
 pub mod solve;
+pub mod solve_word;
 pub mod systematic_function;
 pub mod systematic_word;
 pub mod unit_rows;

@@ -1,5 +1,5 @@
 // Matrix: the codewords of all unit messages at k places.
-use crate::look::last_zero;
+use crate::last_zero::last_zero;
 use crate::unit_rows::write_rows;
 use crate::work::ROOM;
 use crate::work::clear_room;

@@ -1,6 +1,6 @@
 // Pick: of places ranked best first, the first k that work.
+use crate::last_zero::last_zero;
 use crate::look::last_index;
-use crate::look::last_zero;
 use crate::work::ROOM;
 use crate::work::clear_room;
 use basics::Answer;

@@ -14,11 +14,11 @@ ghost use Prim.Native.Nat.{_≤_};
 ghost use lib.ListN.{length};
 ghost use Rattle.basics.specs.declared.Answer.the-variants.{Done};
 ghost use Rattle.codewords.specs.Code.{codeOf, codeAnswer};
-ghost use Rattle.coder.specs.Given.{Prepared};
+ghost use Rattle.coder.specs.Given.{Prepared, HoldsFunction};
 ghost use Rattle.coder.specs.Stages.{listsAnswer};
 
 // The answer of the tests of places and symbols.
-fn test_lists(p: Parameters, xs: &[u8], ys: &[u8], places: &[u16], symbols: &[u8]) -> Answer
+pub fn test_lists(p: Parameters, xs: &[u8], ys: &[u8], places: &[u16], symbols: &[u8]) -> Answer
     requires { ⌜ codeAnswer (codeOf p (now xs) (now ys)) ≡ Done ⌝ }
     ensures { λ r. ⌜ r ≡ listsAnswer (codeOf p (now (xs .entry)) (now (ys .entry))) (now (places .entry)) (now (symbols .entry)) ⌝ }
 {
@@ -48,7 +48,8 @@ pub fn prepare(
 ) -> Answer
     requires { ⌜ codeAnswer (codeOf p (now xs) (now ys)) ≡ Done ⌝ }
     requires { ⌜ (length (now symbols) ≡ length (now places)) × (292 ≤ length (now f)) ⌝ }
-    ensures { λ r. ⌜ Prepared (codeOf p (now (xs .entry)) (now (ys .entry))) (now (places .entry)) (now (symbols .entry)) (now (f .exit)) r ⌝ }
+    ensures { λ r. ⌜ Prepared (codeOf p (now (xs .entry)) (now (ys .entry))) (now (places .entry)) (now (symbols .entry))
+        (HoldsFunction (codeOf p (now (xs .entry)) (now (ys .entry))) (now (places .entry)) (now (symbols .entry)) (now (f .exit))) r ⌝ }
 {
     let tested = test_lists(p, xs, ys, places, symbols);
     if let Answer::Done = tested {

@@ -1,13 +1,13 @@
 // Rebuild: the codeword that agrees with the symbols at k places or more.
-use crate::prepare::prepare;
-use crate::words::agrees_all;
-use crate::words::put_word;
+use crate::prepare_word::prepare_word;
+use crate::words::agrees_at;
 use crate::work::ROOM;
 use crate::work::clear_room;
 use basics::Answer;
 use basics::Refusal;
 use code::test::test_code;
 use codewords::Parameters;
+use engine::write::write_function;
 ghost use mathlib.Core.Path.{_≡_};
 ghost use Prim.Native.Nat.{_≤_};
 ghost use lib.ListN.{length};
@@ -17,7 +17,7 @@ ghost use Rattle.codewords.specs.Code.{codeOf, codeAnswer};
 ghost use Rattle.coder.specs.Outcomes.{room, rebuildOutcome};
 ghost use Rattle.coder.specs.Stages.{rebuildRun, rebuildTested};
 
-// The tests from number 9 on, and then the result. An array is lent for the function.
+// The tests from number 9 on, and then the result. An array is lent for the word.
 fn rebuild_run(
     p: Parameters,
     xs: &[u8],
@@ -29,16 +29,16 @@ fn rebuild_run(
     work: &mut [u8],
 ) -> Answer
     requires { ⌜ codeAnswer (codeOf p (now xs) (now ys)) ≡ Done ⌝ }
-    requires { ⌜ (length (now symbols) ≡ length (now places)) × (length (now out) ≡ length (now xs)) × (room ≤ length (now work)) × (292 ≤ length (now f)) ⌝ }
+    requires { ⌜ (length (now symbols) ≡ length (now places)) × (length (now out) ≡ length (now xs)) × (room ≤ length (now work)) × (length (now f) ≡ length (now xs)) ⌝ }
     ensures { λ r. ⌜ Meets (rebuildRun (codeOf p (now (xs .entry)) (now (ys .entry))) (now (places .entry)) (now (symbols .entry)) (now (work .entry))) r
         (now (out .entry), now (work .entry)) (now (out .exit), now (work .exit)) ⌝ }
 {
-    let prepared = prepare(p, xs, ys, places, symbols, f);
+    let prepared = prepare_word(p, xs, ys, places, symbols, f);
     if let Answer::Done = prepared {
-        if !agrees_all(p, xs, ys, places, symbols, f) {
+        if !agrees_at(f, places, symbols) {
             return Answer::Refused(Refusal::NoCodeword);
         }
-        put_word(p, xs, ys, f, out);
+        write_function(f, xs.len(), out);
         clear_room(work);
         return Answer::Done;
     }
@@ -71,8 +71,9 @@ fn rebuild_tested(
     if work.len() < ROOM {
         return Answer::Refused(Refusal::Length);
     }
-    let mut f = [0u8; 292];
-    rebuild_run(p, xs, ys, places, symbols, &mut f, out, work)
+    let n = xs.len();
+    let mut f = [0u8; 288];
+    rebuild_run(p, xs, ys, places, symbols, &mut f[..n], out, work)
 }
 
 // The codeword that agrees with the symbols at all of the places.

@@ -19,7 +19,7 @@ ghost use Rattle.elliptic.specs.Pair.{corrected, padded};
 ghost use Rattle.codewords.specs.Code.{codeOf};
 ghost use Rattle.engine.specs.Arrays.{Long, Room, WordRoom};
 ghost use Rattle.engine.specs.Places.{pointOf, IsPlace};
-ghost use Rattle.coder.specs.Given.{Posed, Solving};
+ghost use Rattle.coder.specs.Given.{Posed, Solving, HoldsFunction};
 
 // F, in f, gains the multiple of L that makes its value at the place v, and becomes k coefficients.
 fn finish_at(
@@ -61,7 +61,8 @@ fn solve_in(
 ) -> bool
     requires { ⌜ Tables (p .field) (now powers) (now logs) ⌝ }
     requires { ⌜ Posed (codeOf p (now xs) (now ys)) (now places) (now symbols) × Long (now l) (now u) × (292 ≤ length (now f)) ⌝ }
-    ensures { λ r. ⌜ Solving (codeOf p (now (xs .entry)) (now (ys .entry))) (now (places .entry)) (now (symbols .entry)) (now (f .exit)) r ⌝ }
+    ensures { λ r. ⌜ Solving (codeOf p (now (xs .entry)) (now (ys .entry))) (now (places .entry))
+        (HoldsFunction (codeOf p (now (xs .entry)) (now (ys .entry))) (now (places .entry)) (now (symbols .entry)) (now (f .exit))) r ⌝ }
 {
     let m = p.field;
     let k = p.k;
@@ -103,7 +104,8 @@ pub fn solve(
 ) -> bool
     requires { ⌜ Tables (p .field) (now powers) (now logs) ⌝ }
     requires { ⌜ Posed (codeOf p (now xs) (now ys)) (now places) (now symbols) × (292 ≤ length (now f)) ⌝ }
-    ensures { λ r. ⌜ Solving (codeOf p (now (xs .entry)) (now (ys .entry))) (now (places .entry)) (now (symbols .entry)) (now (f .exit)) r ⌝ }
+    ensures { λ r. ⌜ Solving (codeOf p (now (xs .entry)) (now (ys .entry))) (now (places .entry))
+        (HoldsFunction (codeOf p (now (xs .entry)) (now (ys .entry))) (now (places .entry)) (now (symbols .entry)) (now (f .exit))) r ⌝ }
 {
     let mut l = [0u8; 292];
     let mut u = [0u8; 292];

@@ -1,6 +1,5 @@
 // The rows of Matrix: the codewords of the unit messages, each in its own part of the buffer.
-use crate::solve::solve;
-use crate::words::put_word;
+use crate::solve_word::solve_word;
 use basics::MessageIndex;
 use codewords::Parameters;
 ghost use mathlib.Core.Path.{_≡_};
@@ -31,7 +30,7 @@ fn write_unit(i: MessageIndex, message: &mut [u8])
     }
 }
 
-// The codeword of that message. Two arrays are lent, for the message and for the function.
+// The codeword of that message. An array is lent for the message.
 fn write_row_in(
     p: Parameters,
     powers: &[u8; 255],
@@ -41,20 +40,18 @@ fn write_row_in(
     places: &[u16],
     i: MessageIndex,
     message: &mut [u8],
-    f: &mut [u8],
     out: &mut [u8],
 )
     requires { ⌜ Tables (p .field) (now powers) (now logs) ⌝ }
-    requires { ⌜ Works (codeOf p (now xs) (now ys)) (now places) × (288 ≤ length (now message)) × (292 ≤ length (now f)) × (length (now out) ≡ length (now xs)) ⌝ }
+    requires { ⌜ Works (codeOf p (now xs) (now ys)) (now places) × (288 ≤ length (now message)) × (length (now out) ≡ length (now xs)) ⌝ }
     ensures { λ _. ⌜ now (out .exit) ≡ row (codeOf p (now (xs .entry)) (now (ys .entry))) (now (places .entry)) i ⌝ }
 {
     let k = p.k;
     write_unit(i, &mut message[..k]);
-    solve(p, powers, logs, xs, ys, places, &message[..k], f);
-    put_word(p, xs, ys, f, out);
+    solve_word(p, powers, logs, xs, ys, places, &message[..k], out);
 }
 
-// The same with arrays of its own.
+// The same with an array of its own.
 fn write_row(
     p: Parameters,
     powers: &[u8; 255],
@@ -70,7 +67,6 @@ fn write_row(
     ensures { λ _. ⌜ now (out .exit) ≡ row (codeOf p (now (xs .entry)) (now (ys .entry))) (now (places .entry)) i ⌝ }
 {
     let mut message = [0u8; 288];
-    let mut f = [0u8; 292];
     write_row_in(
         p,
         powers,
@@ -80,7 +76,6 @@ fn write_row(
         places,
         i,
         &mut message,
-        &mut f,
         out,
     );
 }

@@ -138,7 +138,7 @@ steps-round {a = a} {b} {r} {k} h p = record { first-size = p .second-size; seco
 -- ---- the interpolant
 
 -- it gains the multiple of g that makes it v at the point
-corrects : {m : ℕ} (k : IsField m) (xs ys g w : List ℕ) {j : ℕ} (v : ℕ) → j < length xs → {a f z : List ℕ} (e : ℕ) → e ≡ product m (bitXor v (getD f j 0)) (inverse m (getD a j 0))
+pub corrects : {m : ℕ} (k : IsField m) (xs ys g w : List ℕ) {j : ℕ} (v : ℕ) → j < length xs → {a f z : List ℕ} (e : ℕ) → e ≡ product m (bitXor v (getD f j 0)) (inverse m (getD a j 0))
     → Shows m xs ys 0 g a → Shows m xs ys 0 w f → Swept (gainedAt m e a f) 0 f z → Shows m xs ys 0 (corrected (galois m) (point (getD xs j 0) (getD ys j 0)) v g w) z
 unfolding corrected _⊕_
 corrects k xs ys g w {j} v inside e q x y s = rw (← x .at j (omega arith) inside, ← y .at j (omega arith) inside, ← q) (shows-gained k xs ys e (omega arith) x y s)

@@ -1,14 +1,16 @@
 -- A pass from an index on: what is behind it is by the rule, what is before it as it was.
-use Prim.Native.Nat.{ℕ, _+_, _<_, _≤_}
+use Prim.Native.Nat.{ℕ, zero, suc, _+_, _<_, _≤_}
 use mathlib.Core.Path.{_≡_, refl, sym, _∙_, ap}
-use mathlib.Core.List.{List}
+use mathlib.Core.List.{List, [], _∷_}
 use native.Mathlib.Decide.{ℕ-discrete}
 use native.Mathlib.Omega.{arith}
 use lib.Bits.{bitXor}
 use lib.ListN.{length, getD, set, length-set}
 use lib.Seq.{getD-set-same, getD-set-other}
 use Rattle.field.specs.Sum.{_⊕_}
-use Rattle.field.specs.Galois.{product}
+use Rattle.field.specs.Galois.{galois, product}
+use Rattle.elliptic.specs.Pair.{addScaled}
+use Rattle.elliptic.proofs.Function.{length-add}
 use Rattle.values.specs.Values.{Swept, raisedAt, gainedAt}
 
 pub record Sweeping (rule : ℕ → ℕ) (d i : ℕ) (old new : List ℕ) : Type 0 where
@@ -45,3 +47,15 @@ module _ (m : ℕ) {old new : List ℕ} {rule : ℕ → ℕ} {d i : ℕ} (s : Sw
 pub gained-by : (m t : ℕ) (h : List ℕ) {i : ℕ} {old g : List ℕ} {rule : ℕ → ℕ} {d : ℕ} → Sweeping rule d i old g → {c p : ℕ} → c ≡ getD h i 0 → p ≡ product m t c → bitXor (getD g i 0) p ≡ gainedAt m t h old i
 unfolding _⊕_
 gained-by m t h {i = i} s e q = rw (q, e, s .rest i (omega arith))
+
+-- f + t·h of values is a gain at every point
+pub swept-add : (m t : ℕ) (h f : List ℕ) → length h ≡ length f → Swept (gainedAt m t h f) 0 f (addScaled (galois m) t h f)
+unfolding addScaled
+swept-add m t h f e = record { size = length-add (galois m) t h f (omega arith); at = λ i a b. go h f i e b }
+  where
+    go : (h f : List ℕ) (i : ℕ) → length h ≡ length f → i < length f → getD (addScaled (galois m) t h f) i 0 ≡ gainedAt m t h f i
+    go [] [] i e l = absurd (omega arith)
+    go [] (d ∷ f) i e l = absurd (omega arith)
+    go (c ∷ h) [] i e l = absurd (omega arith)
+    go (c ∷ h) (d ∷ f) zero e l = refl
+    go (c ∷ h) (d ∷ f) (suc i) e l = go h f i (omega arith) (omega arith)

@@ -1,16 +1,13 @@
 -- The tests of the lists, and then what is solved for.
-use Prim.{tt}
-use Prim.Native.Nat.{ℕ}
-use mathlib.Core.Path.{_≡_, refl, sym, _∙_}
+use mathlib.Core.Path.{_≡_, sym, _∙_}
 use mathlib.Core.Logic.{⊎-elim}
 use native.Mathlib.Omega.{arith}
 use borrow.Author.Tests.{not-true, not-false}
 use Rattle.basics.specs.declared.Answer.the-variants.{Done}
-use Rattle.basics.proofs.Outcomes.{pass, refuse, accept}
 use Rattle.codewords.specs.Code.{codeOf}
 use Rattle.codewords.proofs.Accepted.{accepted-done}
 use Rattle.coder.specs.Stages.{listsAnswer}
-use Rattle.coder.proofs.Chains.{lists-go, lists-stop, posed}
+use Rattle.coder.proofs.Chains.{posed, prepared-not, prepared-done, prepared-stop}
 use borrow.Author.Needs.{needs}
 use Rattle.coder.proofs.prepare.prepare.Statement.{statement}
 use Rattle.coder.proofs.prepare.prepare.Tie as tie
@@ -42,27 +39,16 @@ same-length : tie.Need-same-length
 same-length c = search needs
 
 returns : tie.Need-returns
-returns c =
-    record {
-      answers = lists-go _ _ _ (passed (c .before .before .before .before .before .before .before .before .before)) _ (refuse _ {old = tt} (sym (c .before .before .before .solve .ensures .free) ∙ not-true _ (c .if1 .taken))) .answers;
-      holds = λ e. let z : _≡_ {A = ℕ} 0 1 = cc in absurd (omega arith);
-    }
+returns c = prepared-not _ _ _ (passed (c .before .before .before .before .before .before .before .before .before)) (c .before .before .before .solve .ensures) (not-true _ (c .if1 .taken))
 
 same-length-2 : tie.Need-same-length-2
 same-length-2 c = search needs
 
 returns-2 : tie.Need-returns-2
-returns-2 c =
-    let t = not-false _ (c .if1 .left) in
-    record {
-      answers = lists-go _ _ _ (passed (c .before .before .before .before .before .before .before .before .before)) _ (pass _ {old = tt} {new = tt} (sym (c .before .before .before .solve .ensures .free) ∙ t) (accept refl)) .answers;
-      holds = λ e. c .before .before .before .solve .ensures .holds t;
-    }
+returns-2 c = prepared-done _ _ _ (passed (c .before .before .before .before .before .before .before .before .before)) (c .before .before .before .solve .ensures) (not-false _ (c .if1 .left))
 
 returns-3 : tie.Need-returns-3
-returns-3 c =
-    let other : c .before .test-lists .result ≡ Done → ⊥ = λ d. ⊎-elim (λ e. omega (arith, e)) (λ e. omega (arith, e)) (rw d at (c .match .keys2)) in
-    record { answers = lists-stop _ _ _ {old = tt} _ (c .before .test-lists .ensures) other .answers; holds = λ d. absurd (other d) }
+returns-3 c = prepared-stop _ _ _ (c .before .test-lists .ensures) (λ d. ⊎-elim (λ e. omega (arith, e)) (λ e. omega (arith, e)) (rw d at (c .match .keys2)))
 
 pub prepare-spec : {M : Type 1} → statement M
 prepare-spec =

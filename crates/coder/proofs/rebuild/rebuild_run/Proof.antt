@@ -4,35 +4,35 @@ use mathlib.Core.Logic.{⊎-elim}
 use native.Mathlib.Omega.{arith}
 use borrow.Author.Tests.{not-true, not-false}
 use Rattle.basics.specs.declared.Answer.the-variants.{Done}
-use Rattle.basics.specs.Lists.{Holds}
 use Rattle.basics.proofs.Outcomes.{pass, refuse, accept-pair}
 use Rattle.codewords.specs.Code.{codeOf}
-use Rattle.codewords.specs.Computed.{solution}
+use Rattle.coder.specs.Given.{solvedWord}
 use Rattle.coder.specs.Stages.{posedAnswer}
 use Rattle.coder.proofs.Chains.{posed-go, posed-stop, solvable, enough}
-use Rattle.coder.proofs.Results.{agreed-by, rebuilt}
+use Rattle.coder.proofs.Link.{all-in}
+use Rattle.coder.proofs.Results.{agreed-by, rebuilt, whole-word}
 use borrow.Author.Needs.{needs}
 use Rattle.coder.proofs.rebuild.rebuild_run.Statement.{statement}
 use Rattle.coder.proofs.rebuild.rebuild_run.Tie as tie
 
-prepare-requires : tie.Need-prepare-requires
-prepare-requires c κs = let s = c .before .before .before .before .before .before .before .before in (s .pre .0, (s .pre .1 .0, s .pre .1 .3))
+prepare-word-requires : tie.Need-prepare-word-requires
+prepare-word-requires c κs = let s = c .before .before .before .before .before .before .before .before in (s .pre .0, (s .pre .1 .0, s .pre .1 .3))
 
 enum-told : tie.Need-enum-told
 enum-told c = search needs
 
--- the tests were passed, and the function stands in f
+-- the tests were passed, and the word stands in f
 passed : (c : tie.After-enum-told) → let a = c .before .before .before .before .before .before .before .before .before .before .before .before .before .args in posedAnswer (codeOf (a .p) (a .xs .now) (a .ys .now)) (a .places .now) (a .symbols .now) ≡ Done
-passed c = sym (c .before .before .before .before .prepare .ensures .answers) ∙ c .enum-told .given .1
+passed c = sym (c .before .before .before .before .prepare-word .ensures .answers) ∙ c .enum-told .given .1
 
-holds : (c : tie.After-enum-told) → let a = c .before .before .before .before .before .before .before .before .before .before .before .before .before .args in Holds (c .before .before .before .before .prepare .last .1 .1 .1 .1 .1 .0) (a .p .k) (solution (codeOf (a .p) (a .xs .now) (a .ys .now)) (a .places .now) (a .symbols .now))
-holds c = c .before .before .before .before .prepare .ensures .holds (c .enum-told .given .1)
+holds : (c : tie.After-enum-told) → let a = c .before .before .before .before .before .before .before .before .before .before .before .before .before .args in c .before .before .before .before .prepare-word .last .1 .1 .1 .1 .1 .0 ≡ solvedWord (codeOf (a .p) (a .xs .now) (a .ys .now)) (a .places .now) (a .symbols .now)
+holds c = c .before .before .before .before .prepare-word .ensures .holds (c .enum-told .given .1)
 
-agrees-all-requires : tie.Need-agrees-all-requires
-agrees-all-requires c κs =
+agrees-at-requires : tie.Need-agrees-at-requires
+agrees-at-requires c κs =
     let s = c .before .before .before .before .before .before .before .before .before .before .before .before .before .before in
-    let at = c .before in
-    (solvable _ _ _ (passed at) (s .pre .0) (s .pre .1 .0) .placed, (holds at .within, s .pre .1 .0))
+    let v = c .before .before .before .before .before .prepare-word in
+    (all-in (solvable _ _ _ (passed (c .before)) (s .pre .0) (s .pre .1 .0) .placed) (v .last .1 .1 .1 .1 .1 .0) (v .kept .1 .1 .1 .1 .1 .0 ∙ s .pre .1 .3), s .pre .1 .0)
 
 same-length : tie.Need-same-length
 same-length c = search needs
@@ -41,10 +41,10 @@ returns : tie.Need-returns
 returns c =
     let s = c .before .before .before .before .before .before .before .before .before .before .before .before .before .before .before .before in
     let at = c .before .before .before in
-    posed-go _ _ _ (passed at) _ (refuse _ (agreed-by _ _ _ (s .pre .0) (enough _ _ _ (passed at) (s .pre .0) (s .pre .1 .0)) (holds at) (c .before .agrees-all .ensures) ∙ not-true _ (c .if1 .taken)))
+    posed-go _ _ _ (passed at) _ (refuse _ (agreed-by _ _ _ (s .pre .0) (enough _ _ _ (passed at) (s .pre .0) (s .pre .1 .0)) (holds at) (c .before .agrees-at .ensures) ∙ not-true _ (c .if1 .taken)))
 
-put-word-requires : tie.Need-put-word-requires
-put-word-requires c κs = let s = c .before .before .before .before .before .before .before .before .before .before .before .before .before .before .before .before .before .before in (s .pre .0, (holds (c .before .before .before .before .before) .within, s .pre .1 .1))
+write-function-requires : tie.Need-write-function-requires
+write-function-requires c κs = let s = c .before .before .before .before .before .before .before .before .before .before .before .before .before .before .before .before .before .before in (omega (arith, c .before .before .before .before .before .before .before .before .before .prepare-word .kept .1 .1 .1 .1 .1 .0, s .pre .1 .3), omega (arith, s .pre .1 .1))
 
 clear-room-requires : tie.Need-clear-room-requires
 clear-room-requires c κs = let s = c .before .before .before .before .before .before .before .before .before .before .before .before .before .before .before .before .before .before .before .before .before .before in s .pre .1 .2
@@ -62,25 +62,30 @@ returns-2 : tie.Need-returns-2
 returns-2 c =
     let s = c .before .before .before .before .before .before .before .before .before .before .before .before .before .before .before .before .before .before .before .before .before .before .before .before .before in
     let at = c .before .before .before .before .before .before .before .before .before .before .before .before in
-    let t = agreed-by _ _ _ (s .pre .0) (enough _ _ _ (passed at) (s .pre .0) (s .pre .1 .0)) (holds at) (c .before .before .before .before .before .before .before .before .before .before .agrees-all .ensures) ∙ not-false _ (c .before .before .before .before .before .before .before .before .before .if1 .left) in
-    posed-go _ _ _ (passed at) _ (pass _ t (accept-pair (c .before .before .before .before .before .before .put-word .ensures ∙ rebuilt _ _ _ (s .pre .0) (enough _ _ _ (passed at) (s .pre .0) (s .pre .1 .0)) (holds at) t) (c .before .before .clear-room .ensures)))
+    let v = c .before .before .before .before .before .before .before .before .before .before .before .before .before .before .before .before .prepare-word in
+    let t = agreed-by _ _ _ (s .pre .0) (enough _ _ _ (passed at) (s .pre .0) (s .pre .1 .0)) (holds at) (c .before .before .before .before .before .before .before .before .before .before .agrees-at .ensures) ∙ not-false _ (c .before .before .before .before .before .before .before .before .before .if1 .left) in
+    posed-go _ _ _ (passed at) _
+    (pass _ t
+    (accept-pair
+    (c .before .before .before .before .before .before .write-function .ensures ∙ whole-word (v .last .1 .1 .1 .1 .1 .0) (v .kept .1 .1 .1 .1 .1 .0 ∙ s .pre .1 .3) (s .pre .1 .1) ∙ rebuilt _ _ _ (s .pre .0) (enough _ _ _ (passed at) (s .pre .0) (s .pre .1 .0)) (holds at) t)
+    (c .before .before .clear-room .ensures)))
 
 same-length-5 : tie.Need-same-length-5
 same-length-5 c = search needs
 
 returns-3 : tie.Need-returns-3
-returns-3 c = posed-stop _ _ _ _ (c .before .before .before .prepare .ensures .answers) (λ d. ⊎-elim (λ e. omega (arith, e)) (λ e. omega (arith, e)) (rw d at (c .match .keys2)))
+returns-3 c = posed-stop _ _ _ _ (c .before .before .before .prepare-word .ensures .answers) (λ d. ⊎-elim (λ e. omega (arith, e)) (λ e. omega (arith, e)) (rw d at (c .match .keys2)))
 
 pub rebuild-run-spec : {M : Type 1} → statement M
 rebuild-run-spec =
     tie.close
     (tie.spec
-    prepare-requires
+    prepare-word-requires
     enum-told
-    agrees-all-requires
+    agrees-at-requires
     same-length
     returns
-    put-word-requires
+    write-function-requires
     clear-room-requires
     same-length-2
     same-length-3

@@ -1,6 +1,9 @@
 -- Test after test of the lengths, and then of what the lists hold.
+use mathlib.Core.Path.{sym}
+use lib.Seq.{length-take-le}
 use borrow.Author.Tests.{eq-eqb, ne-eqb, le-leb, lt-leb}
 use Rattle.basics.proofs.Outcomes.{pass, refuse}
+use Rattle.codewords.proofs.Accepted.{accepted-done}
 use Rattle.coder.specs.Outcomes.{room}
 use borrow.Author.Needs.{needs}
 use Rattle.coder.proofs.rebuild.rebuild_tested.Statement.{statement}
@@ -18,11 +21,14 @@ returns-3 c = pass _ (le-leb _ _ (c .before .before .if1 .left)) (pass _ (eq-eqb
 returns-4 : tie.Need-returns-4
 returns-4 c = pass _ (le-leb _ _ (c .before .before .before .if1 .left)) (pass _ (eq-eqb _ _ (c .before .before .if2 .left)) (pass _ (eq-eqb _ _ (c .before .if3 .left)) (refuse _ (lt-leb room _ (c .if4 .taken)))))
 
+array-borrow-prefix-f : tie.Need-array-borrow-prefix-f
+array-borrow-prefix-f c = accepted-done _ (c .before .before .before .before .before .before .before .before .before .before .pre) .n-most
+
 slice-aggregate-rebuild-run : tie.Need-slice-aggregate-rebuild-run
-slice-aggregate-rebuild-run c = search needs
+slice-aggregate-rebuild-run c = sym (length-take-le _ _ (accepted-done _ (c .before .before .before .before .before .before .before .before .before .before .before .pre) .n-most))
 
 rebuild-run-requires : tie.Need-rebuild-run-requires
-rebuild-run-requires c κs = search needs
+rebuild-run-requires c κs = let s = c .before .before .before .before .before .before .before .before .before .before .before .before .before in (s .pre, (c .before .before .before .before .before .if2 .left, c .before .before .before .before .if3 .left, c .before .before .before .if4 .left, length-take-le _ _ (accepted-done _ (s .pre) .n-most)))
 
 same-length : tie.Need-same-length
 same-length c = search needs
@@ -41,6 +47,7 @@ rebuild-tested-spec =
     returns-2
     returns-3
     returns-4
+    array-borrow-prefix-f
     slice-aggregate-rebuild-run
     rebuild-run-requires
     same-length

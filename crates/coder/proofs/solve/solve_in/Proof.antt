@@ -74,7 +74,7 @@ same-length-3 c = search needs
 returns : tie.Need-returns
 returns c =
     let g = c .before .before .before .before .before .before .before .before .before .before .before .before .before .before .before .before .before .before .before .before .before .before .before .pre .1 .0 in
-    unsolved _ _ (not-free (g .placed) _ (g .are-symbols) (g .at-least) (says (c .before .before)) (sym (c .before .last-index .ensures) ∙ c .if1 .taken))
+    unsolved (not-free (g .placed) _ (g .are-symbols) (g .at-least) (says (c .before .before)) (sym (c .before .last-index .ensures) ∙ c .if1 .taken))
 
 -- the last place is one of the list
 last-lt : (c : tie.Else1) → c .before .last-index .result < length (c .before .before .before .before .before .before .before .before .before .before .before .before .before .before .before .before .before .before .before .before .before .before .before .args .places .now)

@@ -3,32 +3,31 @@ use mathlib.Core.Path.{_≡_, sym, _∙_}
 use mathlib.Core.Logic.{⊎-elim}
 use native.Mathlib.Omega.{arith}
 use Rattle.basics.specs.declared.Answer.the-variants.{Done}
-use Rattle.basics.specs.Lists.{Holds}
 use Rattle.basics.proofs.Outcomes.{accept-pair}
 use Rattle.codewords.specs.Code.{codeOf}
-use Rattle.codewords.specs.Computed.{solution}
+use Rattle.coder.specs.Given.{solvedWord}
 use Rattle.coder.specs.Stages.{posedAnswer}
 use Rattle.coder.proofs.Chains.{posed-go, posed-stop, enough}
-use Rattle.coder.proofs.Results.{the-word}
+use Rattle.coder.proofs.Results.{the-word, whole-word}
 use borrow.Author.Needs.{needs}
 use Rattle.coder.proofs.systematic_word.systematic_word_run.Statement.{statement}
 use Rattle.coder.proofs.systematic_word.systematic_word_run.Tie as tie
 
-prepare-requires : tie.Need-prepare-requires
-prepare-requires c κs = let s = c .before .before .before .before .before .before .before .before in (s .pre .0, (s .pre .1 .1 ∙ sym (s .pre .1 .0), s .pre .1 .4))
+prepare-word-requires : tie.Need-prepare-word-requires
+prepare-word-requires c κs = let s = c .before .before .before .before .before .before .before .before in (s .pre .0, (s .pre .1 .1 ∙ sym (s .pre .1 .0), s .pre .1 .4))
 
 enum-told : tie.Need-enum-told
 enum-told c = search needs
 
--- the tests were passed, and the function stands in f
+-- the tests were passed, and the word stands in f
 passed : (c : tie.After-enum-told) → let a = c .before .before .before .before .before .before .before .before .before .before .before .before .before .args in posedAnswer (codeOf (a .p) (a .xs .now) (a .ys .now)) (a .places .now) (a .symbols .now) ≡ Done
-passed c = sym (c .before .before .before .before .prepare .ensures .answers) ∙ c .enum-told .given .1
+passed c = sym (c .before .before .before .before .prepare-word .ensures .answers) ∙ c .enum-told .given .1
 
-holds : (c : tie.After-enum-told) → let a = c .before .before .before .before .before .before .before .before .before .before .before .before .before .args in Holds (c .before .before .before .before .prepare .last .1 .1 .1 .1 .1 .0) (a .p .k) (solution (codeOf (a .p) (a .xs .now) (a .ys .now)) (a .places .now) (a .symbols .now))
-holds c = c .before .before .before .before .prepare .ensures .holds (c .enum-told .given .1)
+holds : (c : tie.After-enum-told) → let a = c .before .before .before .before .before .before .before .before .before .before .before .before .before .args in c .before .before .before .before .prepare-word .last .1 .1 .1 .1 .1 .0 ≡ solvedWord (codeOf (a .p) (a .xs .now) (a .ys .now)) (a .places .now) (a .symbols .now)
+holds c = c .before .before .before .before .prepare-word .ensures .holds (c .enum-told .given .1)
 
-put-word-requires : tie.Need-put-word-requires
-put-word-requires c κs = let s = c .before .before .before .before .before .before .before .before .before .before .before .before .before .before .before in (s .pre .0, (holds (c .before .before) .within, s .pre .1 .2))
+write-function-requires : tie.Need-write-function-requires
+write-function-requires c κs = let s = c .before .before .before .before .before .before .before .before .before .before .before .before .before .before .before in (omega (arith, c .before .before .before .before .before .before .prepare-word .kept .1 .1 .1 .1 .1 .0, s .pre .1 .4), omega (arith, s .pre .1 .2))
 
 clear-room-requires : tie.Need-clear-room-requires
 clear-room-requires c κs = let s = c .before .before .before .before .before .before .before .before .before .before .before .before .before .before .before .before .before .before .before in s .pre .1 .3
@@ -46,21 +45,25 @@ returns : tie.Need-returns
 returns c =
     let s = c .before .before .before .before .before .before .before .before .before .before .before .before .before .before .before .before .before .before .before .before .before .before in
     let at = c .before .before .before .before .before .before .before .before .before in
-    posed-go _ _ _ (passed at) _ (accept-pair (c .before .before .before .before .before .before .put-word .ensures ∙ the-word _ _ _ (s .pre .0) (enough _ _ _ (passed at) (s .pre .0) (s .pre .1 .1 ∙ sym (s .pre .1 .0))) (s .pre .1 .0) (holds at)) (c .before .before .clear-room .ensures))
+    let v = c .before .before .before .before .before .before .before .before .before .before .before .before .before .prepare-word in
+    posed-go _ _ _ (passed at) _
+    (accept-pair
+    (c .before .before .before .before .before .before .write-function .ensures ∙ whole-word (v .last .1 .1 .1 .1 .1 .0) (v .kept .1 .1 .1 .1 .1 .0 ∙ s .pre .1 .4) (s .pre .1 .2) ∙ the-word _ _ _ (s .pre .0) (enough _ _ _ (passed at) (s .pre .0) (s .pre .1 .1 ∙ sym (s .pre .1 .0))) (s .pre .1 .0) (holds at))
+    (c .before .before .clear-room .ensures))
 
 same-length-4 : tie.Need-same-length-4
 same-length-4 c = search needs
 
 returns-2 : tie.Need-returns-2
-returns-2 c = posed-stop _ _ _ _ (c .before .before .before .prepare .ensures .answers) (λ d. ⊎-elim (λ e. omega (arith, e)) (λ e. omega (arith, e)) (rw d at (c .match .keys2)))
+returns-2 c = posed-stop _ _ _ _ (c .before .before .before .prepare-word .ensures .answers) (λ d. ⊎-elim (λ e. omega (arith, e)) (λ e. omega (arith, e)) (rw d at (c .match .keys2)))
 
 pub systematic-word-run-spec : {M : Type 1} → statement M
 systematic-word-run-spec =
     tie.close
     (tie.spec
-    prepare-requires
+    prepare-word-requires
     enum-told
-    put-word-requires
+    write-function-requires
     clear-room-requires
     same-length
     same-length-2

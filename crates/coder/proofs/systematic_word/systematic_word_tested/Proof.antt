@@ -1,6 +1,9 @@
 -- Test after test of the lengths, and then of what the lists hold.
+use mathlib.Core.Path.{sym}
+use lib.Seq.{length-take-le}
 use borrow.Author.Tests.{eq-eqb, ne-eqb, le-leb, lt-leb}
 use Rattle.basics.proofs.Outcomes.{pass, refuse, meets-as}
+use Rattle.codewords.proofs.Accepted.{accepted-done}
 use Rattle.coder.specs.Outcomes.{room}
 use Rattle.coder.proofs.Chains.{posed-as}
 use borrow.Author.Needs.{needs}
@@ -19,11 +22,14 @@ returns-3 c = pass _ (eq-eqb _ _ (c .before .before .before .if1 .left)) (pass _
 returns-4 : tie.Need-returns-4
 returns-4 c = pass _ (eq-eqb _ _ (c .before .before .before .before .if1 .left)) (pass _ (eq-eqb _ _ (c .before .before .if2 .left)) (pass _ (eq-eqb _ _ (c .before .if3 .left)) (refuse _ (lt-leb room _ (c .if4 .taken)))))
 
+array-borrow-prefix-f : tie.Need-array-borrow-prefix-f
+array-borrow-prefix-f c = accepted-done _ (c .before .before .before .before .before .before .before .before .before .before .before .before .pre) .n-most
+
 slice-aggregate-systematic-word-run : tie.Need-slice-aggregate-systematic-word-run
-slice-aggregate-systematic-word-run c = search needs
+slice-aggregate-systematic-word-run c = sym (length-take-le _ _ (accepted-done _ (c .before .before .before .before .before .before .before .before .before .before .before .before .before .pre) .n-most))
 
 systematic-word-run-requires : tie.Need-systematic-word-run-requires
-systematic-word-run-requires c κs = search needs
+systematic-word-run-requires c κs = let s = c .before .before .before .before .before .before .before .before .before .before .before .before .before .before .before in (s .pre, (c .before .before .before .before .before .before .before .if1 .left, c .before .before .before .before .before .if2 .left, c .before .before .before .before .if3 .left, c .before .before .before .if4 .left, length-take-le _ _ (accepted-done _ (s .pre) .n-most)))
 
 same-length : tie.Need-same-length
 same-length c = search needs
@@ -42,6 +48,7 @@ systematic-word-tested-spec =
     returns-2
     returns-3
     returns-4
+    array-borrow-prefix-f
     slice-aggregate-systematic-word-run
     systematic-word-run-requires
     same-length
