@@ -8,3 +8,5 @@ mod Answers
 mod Stops
 mod Jobs
 mod Whole
+pub mod Inverse
+pub mod Cases

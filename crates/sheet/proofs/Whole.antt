@@ -9,11 +9,11 @@ use Rattle.basics.specs.declared.Refusal.{Refusal}
 use Rattle.basics.specs.declared.Refusal.the-variants.{Length, SheetShape}
 use Rattle.basics.specs.declared.Answer.{Answer}
 use Rattle.basics.specs.declared.Answer.the-variants.{Counted, Refused}
-use Rattle.basics.specs.Outcome.{Outcome, refused, Meets}
+use Rattle.basics.specs.Outcome.{Outcome, refused}
 use Rattle.basics.proofs.Outcomes.{pass, refuse, count}
 use Rattle.basics.proofs.Loops.{appended-none}
 use Rattle.sheet.specs.Reading.{bad, got, Sheet, sheet}
-use Rattle.sheet.specs.Job.{accepting, answerText, answerTo, outcomeOf, jobOutcome, sheetOutcome, room}
+use Rattle.sheet.specs.Job.{accepting, answerText, answerTo, outcomeOf, jobOutcome, sheetOutcome, room, Answers}
 use Rattle.sheet.specs.Running.{Result, ran}
 use Rattle.sheet.specs.Stages.{Appends}
 
@@ -39,10 +39,12 @@ appends-as e p = rw e at p
 
 -- ---- the operation
 
-pub too-short : (s out : List ℕ) → length out ≤ 4095 → Meets (sheetOutcome s out) (Refused Length) out out
+pub too-short : (s out : List ℕ) → length out ≤ 4095 → Answers s out (Refused Length) out
 unfolding sheetOutcome
-too-short s out h = refuse _ (lt-leb room (length out) (omega arith))
+too-short s out h = record { meets = refuse _ (lt-leb room (length out) (omega arith)); few = omega arith }
 
-pub answered : (s out out′ : List ℕ) (n : ℕ) → room ≤ length out → Appends (answerTo s) out 0 out′ n → Meets (sheetOutcome s out) (Counted n) out out′
+pub answered : (s out out′ : List ℕ) (n : ℕ) → room ≤ length out → Appends (answerTo s) out 0 out′ n → n ≤ room → Answers s out (Counted n) out′
 unfolding sheetOutcome
-answered s out out′ n h p = let a = p .behind [] out (appended-none out) in pass _ (le-leb room (length out) h) (count (a .count) (a .holds))
+answered s out out′ n h p k =
+    let a = p .behind [] out (appended-none out) in
+    record { meets = pass _ (le-leb room (length out) h) (count (a .count) (a .holds)); few = k }

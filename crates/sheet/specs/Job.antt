@@ -1,11 +1,12 @@
 -- What a sheet asks for, and the text of the answer.
-use Prim.Native.Nat.{ℕ}
+use Prim.Native.Nat.{ℕ, _≤_}
 use mathlib.Core.List.{List, [], _∷_, _++_, map}
 use lib.Dec.{leb}
 use lib.ListN.{length, take}
 use Rattle.basics.specs.declared.Refusal.the-variants.{Length, Dependent, SheetShape}
+use Rattle.basics.specs.declared.Answer.{Answer}
 use Rattle.basics.specs.Lists.{written}
-use Rattle.basics.specs.Outcome.{Outcome, refused, accepted, counted, check, number}
+use Rattle.basics.specs.Outcome.{Outcome, refused, accepted, counted, check, number, counts, Meets}
 use Rattle.field.specs.Galois.{galois}
 use Rattle.elliptic.specs.declared.Curve.{Curve}
 use Rattle.elliptic.specs.declared.Point.{Point}
@@ -66,6 +67,11 @@ room = 4096
 -- the answer at the front of the lent buffer, and its length
 unfoldable pub sheetOutcome : List ℕ → List ℕ → Outcome (List ℕ)
 sheetOutcome s out = check (leb room (length out)) Length (counted (length (answerTo s)) (written (answerTo s) out))
+
+-- what a sheet is answered with, and that the count is within the room
+pub record Answers (s old : List ℕ) (r : Answer) (new : List ℕ) : Type 0 where
+  pub meets : Meets (sheetOutcome s old) r old new
+  pub few : counts r ≤ room
 
 -- the sheet of a job, as a works office writes it
 unfoldable pub sheetText : Sheet → List ℕ

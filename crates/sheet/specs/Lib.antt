@@ -2,5 +2,7 @@
 pub mod Text
 pub mod Reading
 pub mod Job
+pub mod Valid
+pub mod Cases
 pub mod Stages
 pub mod Running

@@ -10,8 +10,7 @@ use basics::Refusal;
 ghost use mathlib.Core.Path.{_≡_};
 ghost use Prim.Native.Nat.{_≤_};
 ghost use lib.ListN.{length};
-ghost use Rattle.basics.specs.Outcome.{Meets};
-ghost use Rattle.sheet.specs.Job.{answerText, answerTo, jobOutcome, room, sheetOutcome};
+ghost use Rattle.sheet.specs.Job.{answerText, answerTo, jobOutcome, room, Answers};
 ghost use Rattle.sheet.specs.Running.{Rooms, jobOf};
 ghost use Rattle.sheet.specs.Stages.{Appends};
 
@@ -28,7 +27,7 @@ fn answer_job(
     out: &mut [u8],
 ) -> usize
     requires { ⌜ Rooms (now function) (now word) × (room ≤ length (now out)) ⌝ }
-    ensures { λ r. ⌜ Appends (answerText (jobOutcome (jobOf head (now (places .entry)) (now (message .entry))))) (now (out .entry)) 0 (now (out .exit)) r ⌝ }
+    ensures { λ r. ⌜ Appends (answerText (jobOutcome (jobOf head (now (places .entry)) (now (message .entry))))) (now (out .entry)) 0 (now (out .exit)) r × (r ≤ room) ⌝ }
 {
     let k = head.k as usize;
     let ran = run(head, places, message, function, word);
@@ -49,7 +48,7 @@ fn answer_read(
     out: &mut [u8],
 ) -> usize
     requires { ⌜ Rooms (now places) (now message) × Rooms (now function) (now word) × (room ≤ length (now out)) ⌝ }
-    ensures { λ r. ⌜ Appends (answerTo (now (s .entry))) (now (out .entry)) 0 (now (out .exit)) r ⌝ }
+    ensures { λ r. ⌜ Appends (answerTo (now (s .entry))) (now (out .entry)) 0 (now (out .exit)) r × (r ≤ room) ⌝ }
 {
     let parsed = read_sheet(s, places, message);
     let Parsed::Whole(head, many, count) = parsed else {
@@ -67,7 +66,7 @@ fn answer_read(
 
 // The answer to any bytes, at the front of a buffer of at least 4,096 bytes, and its length.
 pub fn answer_sheet(s: &[u8], out: &mut [u8]) -> Answer
-    ensures { λ r. ⌜ Meets (sheetOutcome (now (s .entry)) (now (out .entry))) r (now (out .entry)) (now (out .exit)) ⌝ }
+    ensures { λ r. ⌜ Answers (now (s .entry)) (now (out .entry)) r (now (out .exit)) ⌝ }
 {
     if out.len() < ROOM {
         return Answer::Refused(Refusal::Length);

@@ -1,9 +1,12 @@
 -- By what was read: the job, or number 20.
 use Prim.Native.Nat.{_≤_}
 use mathlib.Core.Path.{sym, _∙_, ap}
+use native.Mathlib.Omega.{arith}
 use lib.ListN.{length}
 use lib.Seq.{length-take-le}
+use Rattle.basics.specs.declared.Refusal.the-variants.{SheetShape}
 use Rattle.sheet.specs.Stages.{sheetIn}
+use Rattle.sheet.proofs.Answers.{refusal-few}
 use Rattle.sheet.proofs.Whole.{read-text, bad-text, appends-as}
 use borrow.Author.Needs.{needs}
 use Rattle.sheet.proofs.answer.answer_read.Statement.{statement}
@@ -42,7 +45,8 @@ same-length-3 c = search needs
 returns : tie.Need-returns
 returns c =
     let r = c .before .before .before .before .before .before .before .before .before .before .read-sheet in
-    appends-as (bad-text (c .before .before .before .before .before .before .before .before .before .before .before .before .before .before .before .before .before .before .before .args .s .now) (sym (ap (sheetIn (r .last .1 .0) (r .last .1 .1 .0)) (c .before .before .before .before .enum-told .given .1)) ∙ r .ensures .reads)) (c .before .before .write-refusal .ensures)
+    let w = c .before .before .write-refusal .ensures in
+    (appends-as (bad-text (c .before .before .before .before .before .before .before .before .before .before .before .before .before .before .before .before .before .before .before .args .s .now) (sym (ap (sheetIn (r .last .1 .0) (r .last .1 .1 .0)) (c .before .before .before .before .enum-told .given .1)) ∙ r .ensures .reads)) w, omega (arith, w .count, refusal-few SheetShape))
 
 slice-reshare-prefix-answer-job : tie.Need-slice-reshare-prefix-answer-job
 slice-reshare-prefix-answer-job c = fits (c .before) .0
@@ -77,7 +81,7 @@ same-length-8 c = search needs
 returns-2 : tie.Need-returns-2
 returns-2 c =
     let r = c .before .before .before .before .before .before .before .before .before .before .before .before .before .before .before .before .before .before .before .read-sheet in
-    appends-as (read-text (c .before .before .before .before .before .before .before .before .before .before .before .before .before .before .before .before .before .before .before .before .before .before .before .before .before .before .before .before .args .s .now) _ _ (sym (ap (sheetIn (r .last .1 .0) (r .last .1 .1 .0)) (c .before .before .before .before .before .before .before .before .before .before .before .before .before .parsed .given .1)) ∙ r .ensures .reads)) (c .before .before .before .before .before .before .answer-job .ensures)
+    (appends-as (read-text (c .before .before .before .before .before .before .before .before .before .before .before .before .before .before .before .before .before .before .before .before .before .before .before .before .before .before .before .before .args .s .now) _ _ (sym (ap (sheetIn (r .last .1 .0) (r .last .1 .1 .0)) (c .before .before .before .before .before .before .before .before .before .before .before .before .before .parsed .given .1)) ∙ r .ensures .reads)) (c .before .before .before .before .before .before .answer-job .ensures .0), c .before .before .before .before .before .before .answer-job .ensures .1)
 
 pub answer-read-spec : {M : Type 1} → statement M
 answer-read-spec =
