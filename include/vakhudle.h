@@ -103,6 +103,13 @@ int32_t vakhudle_rebuild(uint8_t field, uint8_t g1, uint8_t g2, uint8_t g3, uint
                          const uint8_t *ys, size_t ys_len, size_t k, const uint16_t *places, size_t places_len, const uint8_t *symbols,
                          size_t symbols_len, uint8_t *symbols_out, size_t symbols_out_len, uint8_t *work, size_t work_len);
 
+/* The least length of the buffer for the answer to a job sheet: no answer is longer. */
+#define VAKHUDLE_SHEET_ROOM 4096
+
+/* The answer to a job sheet, which may be any bytes: its text at the front of out, and its length. A sheet that is refused is answered in the text;
+ * the call refuses 8 alone, an out of less than VAKHUDLE_SHEET_ROOM bytes. */
+int32_t vakhudle_sheet(const uint8_t *text, size_t text_len, uint8_t *out, size_t out_len);
+
 /* The mean of an hour with fewer than 45 readings. */
 #define VAKHUDLE_ABSENT 32767
 

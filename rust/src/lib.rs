@@ -16,6 +16,9 @@ pub const MASK_BYTES: usize = 40;
 /// The least length of the working space that some operations are lent. After acceptance this many bytes of it are zero, and the rest is as it was.
 pub const WORKING_SPACE: usize = 8_192;
 
+/// The least length of the buffer for the answer to a job sheet: no answer is longer.
+pub const SHEET_ROOM: usize = 4_096;
+
 /// The mean of an hour with too few readings.
 pub const ABSENT: i16 = 32_767;
 
@@ -53,6 +56,11 @@ pub fn products(field: u8, a: &[u8], b: &[u8], out: &mut [u8]) -> Answer {
 pub fn points(field: u8, curve: [u8; 5], xs_out: &mut [u8], ys_out: &mut [u8]) -> Answer {
     let [g1, g2, g3, g4, g6] = curve;
     answer(unsafe { raw::vakhudle_points(field, g1, g2, g3, g4, g6, xs_out.as_mut_ptr(), xs_out.len(), ys_out.as_mut_ptr(), ys_out.len()) })
+}
+
+/// The answer to a job sheet, any bytes, at the front of a buffer of at least 4,096 bytes, and its length.
+pub fn sheet(text: &[u8], out: &mut [u8]) -> Answer {
+    answer(unsafe { raw::vakhudle_sheet(text.as_ptr(), text.len(), out.as_mut_ptr(), out.len()) })
 }
 
 /// The mean of each hour from `first_hour` on, one for each entry of `means_out`: stamps in minutes, readings and means in tenths of a degree.

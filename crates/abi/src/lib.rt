@@ -10,6 +10,7 @@ ghost use Rattle.code.specs.Heard.{heardOutcome};
 ghost use Rattle.blocks.specs.Outcomes.{plainOutcome, packBlockOutcome, unpackBlockOutcome};
 ghost use Rattle.coder.specs.Outcomes.{recoverOutcome, systematicFunctionOutcome, systematicWordOutcome, matrixOutcome, relationOutcome, pickOutcome, rebuildOutcome};
 ghost use Rattle.hours.specs.Means.{meansOutcome};
+ghost use Rattle.sheet.specs.Job.{sheetOutcome};
 ghost use Rattle.abi.specs.Arguments.{curveOf, parametersOf};
 use basics::status;
 use codewords::Parameters;
@@ -316,4 +317,12 @@ pub extern "C" fn vakhudle_rebuild(
 {
     let parts = parameters(field, g1, g2, g3, g4, g6, k);
     status(coder::rebuild::rebuild(parts, xs, ys, places, symbols, out, work))
+}
+
+// The answer to a job sheet.
+#[no_mangle]
+pub extern "C" fn vakhudle_sheet(text: &[u8], out: &mut [u8]) -> i32
+    ensures { λ r. ⌜ Reports (sheetOutcome (now (text .entry)) (now (out .entry))) r (now (out .entry)) (now (out .exit)) ⌝ }
+{
+    status(sheet::answer::answer_sheet(text, out))
 }

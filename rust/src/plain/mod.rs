@@ -1,4 +1,4 @@
-//! The same in plain Rust. `field`, `curve`, `code`, `places` and `hours` follow the definitions as simply as they can, for tests to compare with;
+//! The same in plain Rust. `field`, `curve`, `code`, `places`, `hours` and `sheet` follow the definitions as simply as they can, for tests to compare with;
 //! `fast` is what one would write for speed, for benchmarks to compare with.
 pub mod code;
 pub mod curve;
@@ -7,6 +7,7 @@ pub mod field;
 pub mod hours;
 pub mod places;
 pub mod random;
+pub mod sheet;
 
 pub use field::{products, Field};
 pub use random::Random;

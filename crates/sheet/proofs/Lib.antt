@@ -1,0 +1,12 @@
+-- What the functions' proofs cite, and the theorems about the definitions.
+mod Texts
+mod Numbers
+mod Lines
+mod Sheets
+mod Appending
+mod Answers
+mod Stops
+mod Jobs
+mod Whole
+pub mod Inverse
+pub mod Cases

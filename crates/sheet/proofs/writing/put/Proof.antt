@@ -1,0 +1,22 @@
+-- The byte goes behind what was written.
+use Rattle.sheet.proofs.Appending.{put-one}
+use borrow.Author.Needs.{needs}
+use Rattle.sheet.proofs.writing.put.Statement.{statement}
+use Rattle.sheet.proofs.writing.put.Tie as tie
+use Rattle.sheet.proofs.writing.put.Reads as reads
+use Rattle.sheet.proofs.writing.put.Lts as lts
+
+slice-write-out : tie.Need-slice-write-out
+slice-write-out c = search needs
+
+add-result : tie.Need-add-result
+add-result c = search needs
+
+same-length : tie.Need-same-length
+same-length c = search needs
+
+returns : tie.Need-returns
+returns c = put-one _ _ _ (c .pre)
+
+pub put-spec : {M : Type 1} → statement M
+put-spec = tie.close (tie.spec slice-write-out add-result same-length returns)
