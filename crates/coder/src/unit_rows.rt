@@ -67,17 +67,7 @@ fn write_row(
     ensures { λ _. ⌜ now (out .exit) ≡ row (codeOf p (now (xs .entry)) (now (ys .entry))) (now (places .entry)) i ⌝ }
 {
     let mut message = [0u8; 288];
-    write_row_in(
-        p,
-        powers,
-        logs,
-        xs,
-        ys,
-        places,
-        i,
-        &mut message,
-        out,
-    );
+    write_row_in(p, powers, logs, xs, ys, places, i, &mut message, out);
 }
 
 // All rows, one after the other.
