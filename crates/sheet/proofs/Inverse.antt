@@ -1,17 +1,17 @@
 -- Reading what is written gives it back: numbers, lists, lines, and the whole sheet.
-use Prim.{Unit, tt}
+use Prim.{tt}
 use Prim.Native.Nat.{ℕ, zero, suc, _+_, _*_, _-_, _/_, _%_, _≤_, _<_}
 use mathlib.Core.Bool.{Bool, true, false, cond}
 use mathlib.Core.Path.{_≡_, refl, sym, _∙_, ap}
 use mathlib.Core.List.{List, [], _∷_, _++_, append-assoc, append-nil}
 use native.Mathlib.Omega.{arith}
 use borrow.Author.Tests.{lt-ltb, le-leb, ltb-true, ltb-false, eq-eqb, ne-eqb}
-use lib.Dec.{eqb, ltb}
-use lib.ListN.{length, drop}
+use lib.Dec.{ltb}
+use lib.ListN.{length}
 use Rattle.basics.specs.Lists.{all}
 use Rattle.basics.proofs.Lists.{both}
 use Rattle.sheet.specs.Text.{comma, lineEnd, fieldKey, curveKey, dimensionKey, placesKey, messageKey, digits, decimal, following, joined, lineOf}
-use Rattle.sheet.specs.Reading.{Read, bad, got, then, before, isNext, stripped, isDigit, more, number, numbers, line, exactly, header, Sheet, lists, sheet}
+use Rattle.sheet.specs.Reading.{got, then, before, isNext, stripped, isDigit, more, number, numbers, line, exactly, Sheet, sheet}
 use Rattle.sheet.specs.Job.{sheetText}
 use Rattle.sheet.specs.Valid.{isNumber, Numbers, Valid}
 use Rattle.sheet.proofs.Lines.{whole-line, right-count}
@@ -20,7 +20,7 @@ use Rattle.sheet.proofs.Sheets.{whole-header, all-read, as-lists}
 -- ---- a number
 
 -- 10 to the power of so many digits
-bound : ℕ → ℕ
+unfoldable pub bound : ℕ → ℕ
 bound zero = 1
 bound (suc most) = 10 * bound most
 

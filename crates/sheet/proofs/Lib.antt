@@ -9,4 +9,6 @@ mod Stops
 mod Jobs
 mod Whole
 pub mod Inverse
+mod Unique
+pub mod Read
 pub mod Cases
