@@ -1,0 +1,3 @@
+# Every definition, theorem, function and edit that docs/PROOF.md cites exists.
+set -e
+python3 tools/cited.py
