@@ -10,7 +10,8 @@ Unpack. A block survives if the codeword and all means come back; the script sto
 
 Two orders of sending are drawn: places 1, 2, 3, .. as Points lists them, and each time STRIDE places further. Opposite points stand side by
 side in the first order, so that an arc of 20 slots from an odd place on leaves 30 pairs of opposite points, and these are dependent. Of the
-strides below 40 that reach all places, 3, 17, 27 and 39 leave no dependent places at any start of such an arc, the others but 1 at 1 to 3 of 80.
+strides below 40 that reach all places, 3, 17, 27 and 39 leave dependent places at no start of such an arc, 1 at 40 of the 80, and the others at 1
+to 3.
 
 The older versions of the coder are not drawn: no document of the project says what they did with missing places.
 """
