@@ -11,11 +11,6 @@ use Rattle.sheet.proofs.Whole.{accepted-text, refused-text, appends-as}
 use borrow.Author.Needs.{needs}
 use Rattle.sheet.proofs.answer.answer_job.Statement.{statement}
 use Rattle.sheet.proofs.answer.answer_job.Tie as tie
-use Rattle.sheet.proofs.answer.answer_job.Reads as reads
-use Rattle.sheet.proofs.answer.answer_job.Lts as lts
-use Rattle.sheet.proofs.job.run.Reads as run-reads
-use Rattle.sheet.proofs.writing.write_accepted.Reads as write-accepted-reads
-use Rattle.sheet.proofs.writing.write_refusal.Reads as write-refusal-reads
 
 -- the function and the word stand in their buffers
 few : (c : tie.After-ran) → (c .before .before .before .before .before .before .before .before .before .before .before .before .before .before .before .args .head .k ≤ 288) × (c .ran .given .0 .0 ≤ 288)

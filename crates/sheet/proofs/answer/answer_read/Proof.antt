@@ -11,11 +11,6 @@ use Rattle.sheet.proofs.Whole.{read-text, bad-text, appends-as}
 use borrow.Author.Needs.{needs}
 use Rattle.sheet.proofs.answer.answer_read.Statement.{statement}
 use Rattle.sheet.proofs.answer.answer_read.Tie as tie
-use Rattle.sheet.proofs.answer.answer_read.Reads as reads
-use Rattle.sheet.proofs.answer.answer_read.Lts as lts
-use Rattle.sheet.proofs.answer.answer_job.Reads as answer-job-reads
-use Rattle.sheet.proofs.sheet.read_sheet.Reads as read-sheet-reads
-use Rattle.sheet.proofs.writing.write_refusal.Reads as write-refusal-reads
 
 -- the lists stand in their buffers
 fits : (c : tie.After-parsed) → (c .parsed .given .0 .1 .0 ≤ length (c .before .before .before .before .before .before .read-sheet .last .1 .0)) × (c .parsed .given .0 .1 .1 .0 ≤ length (c .before .before .before .before .before .before .read-sheet .last .1 .1 .0))

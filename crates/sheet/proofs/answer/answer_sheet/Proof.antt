@@ -4,9 +4,6 @@ use Rattle.sheet.proofs.Whole.{too-short, answered}
 use borrow.Author.Needs.{needs}
 use Rattle.sheet.proofs.answer.answer_sheet.Statement.{statement}
 use Rattle.sheet.proofs.answer.answer_sheet.Tie as tie
-use Rattle.sheet.proofs.answer.answer_sheet.Reads as reads
-use Rattle.sheet.proofs.answer.answer_sheet.Lts as lts
-use Rattle.sheet.proofs.answer.answer_read.Reads as answer-read-reads
 
 returns : tie.Need-returns
 returns c = too-short (c .before .before .before .args .s .now) (c .before .before .before .args .out .now) (omega (arith, c .if1 .taken))

@@ -5,8 +5,6 @@ use borrow.Author.Tests.{lt-ltb, le-ltb}
 use lib.Dec.{ltb}
 use Rattle.sheet.proofs.job.is_small.Statement.{statement}
 use Rattle.sheet.proofs.job.is_small.Tie as tie
-use Rattle.sheet.proofs.job.is_small.Reads as reads
-use Rattle.sheet.proofs.job.is_small.Lts as lts
 
 returns : tie.Need-returns
 returns c = simp (le-ltb (c .before .before .args .h .g1) 256 (c .if1 .taken))

@@ -10,8 +10,6 @@ use Rattle.sheet.proofs.Jobs.{narrowed, all-narrow}
 use borrow.Author.Needs.{needs}
 use Rattle.sheet.proofs.job.narrow.Statement.{statement}
 use Rattle.sheet.proofs.job.narrow.Tie as tie
-use Rattle.sheet.proofs.job.narrow.Reads as reads
-use Rattle.sheet.proofs.job.narrow.Lts as lts
 
 abbrev Inv-loop : tie.InvT-loop
 Inv-loop message symbols₀ i₀ symbols i = (length symbols ≡ length symbols₀) × (take i symbols ≡ take i message)

@@ -4,8 +4,6 @@ use Rattle.sheet.proofs.Jobs.{bytes}
 use borrow.Author.Needs.{needs}
 use Rattle.sheet.proofs.job.parameters.Statement.{statement}
 use Rattle.sheet.proofs.job.parameters.Tie as tie
-use Rattle.sheet.proofs.job.parameters.Reads as reads
-use Rattle.sheet.proofs.job.parameters.Lts as lts
 
 cast-t3 : tie.Need-cast-t3
 cast-t3 c = omega (arith, bytes (c .before .args .h) (c .before .pre .1) .b1)

@@ -11,12 +11,6 @@ use Rattle.sheet.proofs.Jobs.{no-field, field-of, too-large}
 use borrow.Author.Needs.{needs}
 use Rattle.sheet.proofs.job.run.Statement.{statement}
 use Rattle.sheet.proofs.job.run.Tie as tie
-use Rattle.sheet.proofs.job.run.Reads as reads
-use Rattle.sheet.proofs.job.run.Lts as lts
-use Rattle.field.proofs.is_field.Reads as is-field-reads
-use Rattle.sheet.proofs.job.is_small.Reads as is-small-reads
-use Rattle.sheet.proofs.job.parameters.Reads as parameters-reads
-use Rattle.sheet.proofs.job.run_points.Reads as run-points-reads
 
 field-ok : (c : tie.Else2) → isField (c .before .before .before .before .before .before .before .before .before .args .head .field) ≡ true
 field-ok c = sym (c .before .is-field .ensures) ∙ not-false _ (c .if2 .left)

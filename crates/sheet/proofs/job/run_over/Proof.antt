@@ -8,10 +8,6 @@ use Rattle.sheet.proofs.Jobs.{code-stops}
 use borrow.Author.Needs.{needs}
 use Rattle.sheet.proofs.job.run_over.Statement.{statement}
 use Rattle.sheet.proofs.job.run_over.Tie as tie
-use Rattle.sheet.proofs.job.run_over.Reads as reads
-use Rattle.sheet.proofs.job.run_over.Lts as lts
-use Rattle.code.proofs.test.test_code.Reads as test-code-reads
-use Rattle.sheet.proofs.job.run_tested.Reads as run-tested-reads
 
 test-code-requires : tie.Need-test-code-requires
 test-code-requires c κs = search needs

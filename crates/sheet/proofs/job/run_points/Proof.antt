@@ -9,10 +9,6 @@ use Rattle.sheet.proofs.Jobs.{points-stop, points-x, points-y, few-poin
 use borrow.Author.Needs.{needs}
 use Rattle.sheet.proofs.job.run_points.Statement.{statement}
 use Rattle.sheet.proofs.job.run_points.Tie as tie
-use Rattle.sheet.proofs.job.run_points.Reads as reads
-use Rattle.sheet.proofs.job.run_points.Lts as lts
-use Rattle.curve.proofs.points.Reads as points-reads
-use Rattle.sheet.proofs.job.run_over.Reads as run-over-reads
 
 -- the points that were counted fit both buffers
 fits : (c : tie.After-listed) → (c .listed .given .0 .0 ≤ length (c .before .before .before .before .before .before .points .last .1 .1 .0)) × (c .listed .given .0 .0 ≤ length (c .before .before .before .before .before .before .points .last .1 .1 .1 .0))

@@ -14,13 +14,6 @@ use Rattle.sheet.proofs.Stops.{passes, stops}
 use borrow.Author.Needs.{needs}
 use Rattle.sheet.proofs.job.run_tested.Statement.{statement}
 use Rattle.sheet.proofs.job.run_tested.Tie as tie
-use Rattle.sheet.proofs.job.run_tested.Reads as reads
-use Rattle.sheet.proofs.job.run_tested.Lts as lts
-use Rattle.code.proofs.lists.all_different.Reads as all-different-reads
-use Rattle.code.proofs.lists.all_places.Reads as all-places-reads
-use Rattle.field.proofs.size.Reads as size-reads
-use Rattle.sheet.proofs.job.solve_message.Reads as solve-message-reads
-use Rattle.sheet.proofs.job.symbols_below.Reads as symbols-below-reads
 
 -- what each test that was passed says
 places-many : (c : tie.Else1) → eqb (length (c .before .before .before .before .before .before .before .before .args .places .now)) (c .before .before .before .before .before .before .before .before .args .p .k) ≡ true

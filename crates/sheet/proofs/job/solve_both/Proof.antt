@@ -8,10 +8,6 @@ use Rattle.sheet.proofs.Jobs.{function-left, word-left, both-solved, no
 use borrow.Author.Needs.{needs}
 use Rattle.sheet.proofs.job.solve_both.Statement.{statement}
 use Rattle.sheet.proofs.job.solve_both.Tie as tie
-use Rattle.sheet.proofs.job.solve_both.Reads as reads
-use Rattle.sheet.proofs.job.solve_both.Lts as lts
-use Rattle.coder.proofs.systematic_function.systematic_function.Reads as systematic-function-reads
-use Rattle.coder.proofs.systematic_word.systematic_word.Reads as systematic-word-reads
 
 systematic-function-requires : tie.Need-systematic-function-requires
 systematic-function-requires c κs = search needs

@@ -9,9 +9,6 @@ use Rattle.sheet.proofs.Jobs.{put-back, solved-stop, n-few, k-few}
 use borrow.Author.Needs.{needs}
 use Rattle.sheet.proofs.job.solve_into.Statement.{statement}
 use Rattle.sheet.proofs.job.solve_into.Tie as tie
-use Rattle.sheet.proofs.job.solve_into.Reads as reads
-use Rattle.sheet.proofs.job.solve_into.Lts as lts
-use Rattle.sheet.proofs.job.solve_both.Reads as solve-both-reads
 
 -- k and n, which the code test bounds
 few : (c : tie.Start) → (c .args .p .k ≤ 288) × (length (c .args .xs .now) ≤ 288)

@@ -11,10 +11,6 @@ use Rattle.sheet.proofs.Jobs.{are-bytes, k-few}
 use borrow.Author.Needs.{needs}
 use Rattle.sheet.proofs.job.solve_narrowed.Statement.{statement}
 use Rattle.sheet.proofs.job.solve_narrowed.Tie as tie
-use Rattle.sheet.proofs.job.solve_narrowed.Reads as reads
-use Rattle.sheet.proofs.job.solve_narrowed.Lts as lts
-use Rattle.sheet.proofs.job.narrow.Reads as narrow-reads
-use Rattle.sheet.proofs.job.solve_into.Reads as solve-into-reads
 
 few : (c : tie.Start) → c .args .p .k ≤ length (c .args .symbols .now)
 few c = omega (arith, k-few _ (c .pre .0 .done), c .pre .1 .1)

@@ -10,9 +10,6 @@ use Rattle.code.specs.Lists.{isBelow}
 use borrow.Author.Needs.{needs}
 use Rattle.sheet.proofs.job.symbols_below.Statement.{statement}
 use Rattle.sheet.proofs.job.symbols_below.Tie as tie
-use Rattle.sheet.proofs.job.symbols_below.Reads as reads
-use Rattle.sheet.proofs.job.symbols_below.Lts as lts
-use Rattle.sheet.proofs.job.wide.Reads as wide-reads
 
 abbrev Inv-loop : tie.InvT-loop
 Inv-loop q message i₀ i = all (isBelow q) (drop i message) ≡ all (isBelow q) message

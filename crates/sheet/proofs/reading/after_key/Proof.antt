@@ -9,9 +9,6 @@ use Rattle.sheet.proofs.Texts.{key-fails, key-turn, key-ends, next-ther
 use borrow.Author.Needs.{needs}
 use Rattle.sheet.proofs.reading.after_key.Statement.{statement}
 use Rattle.sheet.proofs.reading.after_key.Tie as tie
-use Rattle.sheet.proofs.reading.after_key.Reads as reads
-use Rattle.sheet.proofs.reading.after_key.Lts as lts
-use Rattle.sheet.proofs.reading.is_next.Reads as is-next-reads
 
 abbrev Inv-loop : tie.InvT-loop
 Inv-loop s start key at₀ i₀ at i = stripped (drop i key) (drop at s) ≡ stripped key (drop start s)

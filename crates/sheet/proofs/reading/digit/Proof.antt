@@ -8,8 +8,6 @@ use Rattle.basics.proofs.Lists.{both}
 use borrow.Author.Needs.{needs}
 use Rattle.sheet.proofs.reading.digit.Statement.{statement}
 use Rattle.sheet.proofs.reading.digit.Tie as tie
-use Rattle.sheet.proofs.reading.digit.Reads as reads
-use Rattle.sheet.proofs.reading.digit.Lts as lts
 
 range : (c : tie.Start) → (48 ≤ c .args .b) × (c .args .b ≤ 57)
 range c =

@@ -2,8 +2,6 @@
 use borrow.Author.Tests.{le-leb, lt-leb}
 use Rattle.sheet.proofs.reading.is_digit.Statement.{statement}
 use Rattle.sheet.proofs.reading.is_digit.Tie as tie
-use Rattle.sheet.proofs.reading.is_digit.Reads as reads
-use Rattle.sheet.proofs.reading.is_digit.Lts as lts
 
 returns : tie.Need-returns
 returns c = simp (le-leb 48 (c .before .args .b) (c .if1 .taken))

@@ -5,8 +5,6 @@ use Rattle.sheet.proofs.Texts.{next-in, next-past}
 use borrow.Author.Needs.{needs}
 use Rattle.sheet.proofs.reading.is_next.Statement.{statement}
 use Rattle.sheet.proofs.reading.is_next.Tie as tie
-use Rattle.sheet.proofs.reading.is_next.Reads as reads
-use Rattle.sheet.proofs.reading.is_next.Lts as lts
 
 returns : tie.Need-returns
 returns c = sym (next-past _ _ _ (c .if1 .taken))

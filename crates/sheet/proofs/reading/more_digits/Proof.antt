@@ -10,10 +10,6 @@ use Rattle.sheet.proofs.Texts.{digits-end, digits-stop, behind-zero, to
 use borrow.Author.Needs.{needs}
 use Rattle.sheet.proofs.reading.more_digits.Statement.{statement}
 use Rattle.sheet.proofs.reading.more_digits.Tie as tie
-use Rattle.sheet.proofs.reading.more_digits.Reads as reads
-use Rattle.sheet.proofs.reading.more_digits.Lts as lts
-use Rattle.sheet.proofs.reading.digit.Reads as digit-reads
-use Rattle.sheet.proofs.reading.is_digit.Reads as is-digit-reads
 
 abbrev Inv-loop : tie.InvT-loop
 Inv-loop s start first value₀ at₀ value at = (value < 65536) × (more value (drop at s) ≡ more first (drop start s))

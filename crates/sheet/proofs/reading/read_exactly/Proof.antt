@@ -11,9 +11,6 @@ use Rattle.sheet.proofs.Lines.{no-line, other-count, right-count}
 use borrow.Author.Needs.{needs}
 use Rattle.sheet.proofs.reading.read_exactly.Statement.{statement}
 use Rattle.sheet.proofs.reading.read_exactly.Tie as tie
-use Rattle.sheet.proofs.reading.read_exactly.Reads as reads
-use Rattle.sheet.proofs.reading.read_exactly.Lts as lts
-use Rattle.sheet.proofs.reading.read_line.Reads as read-line-reads
 
 is-line : (c : tie.After-listed) → let s = c .before .before .before .before .before .before .before .before .before .args in
     line (s .key .now) (length (s .out .now)) (drop (s .start) (s .s .now)) ≡ got (take (c .listed .given .0 .0) (c .before .before .before .before .read-line .last .1 .1 .1 .0)) (drop (c .listed .given .0 .1 .0) (s .s .now))

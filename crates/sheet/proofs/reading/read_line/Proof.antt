@@ -14,11 +14,6 @@ use Rattle.sheet.proofs.Lines.{no-key, no-list, no-end, whole-line}
 use borrow.Author.Needs.{needs}
 use Rattle.sheet.proofs.reading.read_line.Statement.{statement}
 use Rattle.sheet.proofs.reading.read_line.Tie as tie
-use Rattle.sheet.proofs.reading.read_line.Reads as reads
-use Rattle.sheet.proofs.reading.read_line.Lts as lts
-use Rattle.sheet.proofs.reading.after_key.Reads as after-key-reads
-use Rattle.sheet.proofs.reading.is_next.Reads as is-next-reads
-use Rattle.sheet.proofs.reading.read_numbers.Reads as read-numbers-reads
 
 -- what was read so far
 found-key : (c : tie.After-found) → let s = c .before .before .before .before .before .before .args in stripped (s .key .now) (drop (s .start) (s .s .now)) ≡ got tt (drop (c .found .given .0 .0) (s .s .now))

@@ -6,11 +6,6 @@ use Rattle.sheet.proofs.Texts.{no-number, no-digit, first-digit}
 use borrow.Author.Needs.{needs}
 use Rattle.sheet.proofs.reading.read_number.Statement.{statement}
 use Rattle.sheet.proofs.reading.read_number.Tie as tie
-use Rattle.sheet.proofs.reading.read_number.Reads as reads
-use Rattle.sheet.proofs.reading.read_number.Lts as lts
-use Rattle.sheet.proofs.reading.digit.Reads as digit-reads
-use Rattle.sheet.proofs.reading.is_digit.Reads as is-digit-reads
-use Rattle.sheet.proofs.reading.more_digits.Reads as more-digits-reads
 
 returns : tie.Need-returns
 returns c = no-number _ _ (c .if1 .taken)

@@ -11,10 +11,6 @@ use Rattle.sheet.proofs.Numbers.{full, no-more, last-number, next-numbe
 use borrow.Author.Needs.{needs}
 use Rattle.sheet.proofs.reading.read_numbers.Statement.{statement}
 use Rattle.sheet.proofs.reading.read_numbers.Tie as tie
-use Rattle.sheet.proofs.reading.read_numbers.Reads as reads
-use Rattle.sheet.proofs.reading.read_numbers.Lts as lts
-use Rattle.sheet.proofs.reading.is_next.Reads as is-next-reads
-use Rattle.sheet.proofs.reading.read_number.Reads as read-number-reads
 
 abbrev Inv-loop : tie.InvT-loop
 Inv-loop s start out₀ at₀ count₀ out at count = (length out ≡ length out₀) × (count ≤ length out) × (before (take count out) (numbers (length out₀ - count) (drop at s)) ≡ numbers (length out₀) (drop start s))

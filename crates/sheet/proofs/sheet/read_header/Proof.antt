@@ -8,9 +8,6 @@ use Rattle.sheet.proofs.Sheets.{no-field, no-curve, no-dimension, whole
 use borrow.Author.Needs.{needs}
 use Rattle.sheet.proofs.sheet.read_header.Statement.{statement}
 use Rattle.sheet.proofs.sheet.read_header.Tie as tie
-use Rattle.sheet.proofs.sheet.read_header.Reads as reads
-use Rattle.sheet.proofs.sheet.read_header.Lts as lts
-use Rattle.sheet.proofs.reading.read_exactly.Reads as read-exactly-reads
 
 slice-aggregate-read-exactly : tie.Need-slice-aggregate-read-exactly
 slice-aggregate-read-exactly c = search needs

@@ -9,9 +9,6 @@ use Rattle.sheet.proofs.Sheets.{none, no-places, no-message, more-text,
 use borrow.Author.Needs.{needs}
 use Rattle.sheet.proofs.sheet.read_lists.Statement.{statement}
 use Rattle.sheet.proofs.sheet.read_lists.Tie as tie
-use Rattle.sheet.proofs.sheet.read_lists.Reads as reads
-use Rattle.sheet.proofs.sheet.read_lists.Lts as lts
-use Rattle.sheet.proofs.reading.read_line.Reads as read-line-reads
 
 slice-aggregate-read-line : tie.Need-slice-aggregate-read-line
 slice-aggregate-read-line c = search needs

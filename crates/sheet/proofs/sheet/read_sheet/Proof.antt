@@ -6,10 +6,6 @@ use Rattle.sheet.proofs.Sheets.{none, too-long, no-header, as-lists}
 use borrow.Author.Needs.{needs}
 use Rattle.sheet.proofs.sheet.read_sheet.Statement.{statement}
 use Rattle.sheet.proofs.sheet.read_sheet.Tie as tie
-use Rattle.sheet.proofs.sheet.read_sheet.Reads as reads
-use Rattle.sheet.proofs.sheet.read_sheet.Lts as lts
-use Rattle.sheet.proofs.sheet.read_header.Reads as read-header-reads
-use Rattle.sheet.proofs.sheet.read_lists.Reads as read-lists-reads
 
 returns : tie.Need-returns
 returns c = none _ _ (too-long (c .before .before .before .before .args .s .now) (c .if1 .taken))

@@ -3,8 +3,6 @@ use Rattle.sheet.proofs.Appending.{put-one}
 use borrow.Author.Needs.{needs}
 use Rattle.sheet.proofs.writing.put.Statement.{statement}
 use Rattle.sheet.proofs.writing.put.Tie as tie
-use Rattle.sheet.proofs.writing.put.Reads as reads
-use Rattle.sheet.proofs.writing.put.Lts as lts
 
 slice-write-out : tie.Need-slice-write-out
 slice-write-out c = search needs

@@ -8,9 +8,6 @@ use Rattle.sheet.proofs.Appending.{Leads, leads-start, leads-room, lead
 use borrow.Author.Needs.{needs}
 use Rattle.sheet.proofs.writing.put_bytes.Statement.{statement}
 use Rattle.sheet.proofs.writing.put_bytes.Tie as tie
-use Rattle.sheet.proofs.writing.put_bytes.Reads as reads
-use Rattle.sheet.proofs.writing.put_bytes.Lts as lts
-use Rattle.sheet.proofs.writing.put.Reads as put-reads
 
 abbrev Inv-loop : tie.InvT-loop
 Inv-loop out₀ start bytes at₀ i₀ out at i = Leads (drop i bytes) out at bytes out₀ start

@@ -9,10 +9,6 @@ use Rattle.sheet.proofs.Appending.{Leads, leads-start, leads-room, lead
 use borrow.Author.Needs.{needs}
 use Rattle.sheet.proofs.writing.put_following.Statement.{statement}
 use Rattle.sheet.proofs.writing.put_following.Tie as tie
-use Rattle.sheet.proofs.writing.put_following.Reads as reads
-use Rattle.sheet.proofs.writing.put_following.Lts as lts
-use Rattle.sheet.proofs.writing.put.Reads as put-reads
-use Rattle.sheet.proofs.writing.put_number.Reads as put-number-reads
 
 abbrev Inv-loop : tie.InvT-loop
 Inv-loop out₀ start l at₀ i₀ out at i = Leads (following (drop i l)) out at (following l) out₀ start

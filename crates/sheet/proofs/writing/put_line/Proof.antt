@@ -7,11 +7,6 @@ use Rattle.sheet.proofs.Appending.{Leads, leads-start, leads-room, lead
 use borrow.Author.Needs.{needs}
 use Rattle.sheet.proofs.writing.put_line.Statement.{statement}
 use Rattle.sheet.proofs.writing.put_line.Tie as tie
-use Rattle.sheet.proofs.writing.put_line.Reads as reads
-use Rattle.sheet.proofs.writing.put_line.Lts as lts
-use Rattle.sheet.proofs.writing.put.Reads as put-reads
-use Rattle.sheet.proofs.writing.put_bytes.Reads as put-bytes-reads
-use Rattle.sheet.proofs.writing.put_numbers.Reads as put-numbers-reads
 
 -- what is left to write
 starts : (c : tie.Start) → let s = c .args in Leads (s .key .now ++ (joined (s .l .now) ++ lineEnd ∷ [])) (s .out .now) (s .start) (lineOf (s .key .now) (s .l .now)) (s .out .now) (s .start)

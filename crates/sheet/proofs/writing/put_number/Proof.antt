@@ -8,10 +8,6 @@ use Rattle.sheet.proofs.Answers.{one-digit, two-digits, three-digits}
 use borrow.Author.Needs.{needs}
 use Rattle.sheet.proofs.writing.put_number.Statement.{statement}
 use Rattle.sheet.proofs.writing.put_number.Tie as tie
-use Rattle.sheet.proofs.writing.put_number.Reads as reads
-use Rattle.sheet.proofs.writing.put_number.Lts as lts
-use Rattle.sheet.proofs.writing.put.Reads as put-reads
-use Rattle.sheet.proofs.writing.put_two.Reads as put-two-reads
 
 add-put : tie.Need-add-put
 add-put c = search needs

@@ -7,10 +7,6 @@ use Rattle.sheet.proofs.Appending.{Leads, leads-start, leads-room, lead
 use borrow.Author.Needs.{needs}
 use Rattle.sheet.proofs.writing.put_numbers.Statement.{statement}
 use Rattle.sheet.proofs.writing.put_numbers.Tie as tie
-use Rattle.sheet.proofs.writing.put_numbers.Reads as reads
-use Rattle.sheet.proofs.writing.put_numbers.Lts as lts
-use Rattle.sheet.proofs.writing.put_following.Reads as put-following-reads
-use Rattle.sheet.proofs.writing.put_number.Reads as put-number-reads
 
 starts : (c : tie.Else1) → let s = c .before .before .before .args in
     Leads (decimal (getD (s .l .now) 0 0) ++ following (drop 1 (s .l .now))) (s .out .now) (s .start) (joined (s .l .now)) (s .out .now) (s .start)

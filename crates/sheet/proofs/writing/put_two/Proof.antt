@@ -7,9 +7,6 @@ use Rattle.sheet.proofs.Appending.{leads-start, leads-on, leads-last}
 use borrow.Author.Needs.{needs}
 use Rattle.sheet.proofs.writing.put_two.Statement.{statement}
 use Rattle.sheet.proofs.writing.put_two.Tie as tie
-use Rattle.sheet.proofs.writing.put_two.Reads as reads
-use Rattle.sheet.proofs.writing.put_two.Lts as lts
-use Rattle.sheet.proofs.writing.put.Reads as put-reads
 
 add-put : tie.Need-add-put
 add-put c = search needs

@@ -8,9 +8,6 @@ use Rattle.sheet.proofs.Answers.{accepting-few}
 use borrow.Author.Needs.{needs}
 use Rattle.sheet.proofs.writing.write_accepted.Statement.{statement}
 use Rattle.sheet.proofs.writing.write_accepted.Tie as tie
-use Rattle.sheet.proofs.writing.write_accepted.Reads as reads
-use Rattle.sheet.proofs.writing.write_accepted.Lts as lts
-use Rattle.sheet.proofs.writing.put_line.Reads as put-line-reads
 
 -- what is left to write
 starts : (c : tie.Start) → let s = c .args in

@@ -7,10 +7,6 @@ use Rattle.sheet.proofs.Appending.{line-few}
 use borrow.Author.Needs.{needs}
 use Rattle.sheet.proofs.writing.write_refusal.Statement.{statement}
 use Rattle.sheet.proofs.writing.write_refusal.Tie as tie
-use Rattle.sheet.proofs.writing.write_refusal.Reads as reads
-use Rattle.sheet.proofs.writing.write_refusal.Lts as lts
-use Rattle.basics.proofs.number.Reads as number-reads
-use Rattle.sheet.proofs.writing.put_line.Reads as put-line-reads
 
 number-requires : tie.Need-number-requires
 number-requires c κs = search needs
