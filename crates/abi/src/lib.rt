@@ -246,7 +246,7 @@ pub extern "C" fn vakhudle_matrix(
         (now (out .entry), now (work .entry)) (now (out .exit), now (work .exit)) ⌝ }
 {
     let parts = parameters(field, g1, g2, g3, g4, g6, k);
-    status(coder::matrix::matrix(parts, xs, ys, places, out, work))
+    status(matrix::operation::matrix(parts, xs, ys, places, out, work))
 }
 
 // Relation.

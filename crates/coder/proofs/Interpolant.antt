@@ -57,7 +57,7 @@ pub padded-holds : {f g l : List ℕ} {size k : ℕ} → Holds f size l → take
 padded-holds {k = k} h e w = record { within = w; first = e ∙ ap₂ (λ a n. a ++ replicate (k - n) 0) (h .first) (sym (holds-length h)) }
 
 -- the values of a function at all points are the values of its k coefficients there
-shown-word : (code : Code) → Accepted code → {f v : List ℕ} → Shows (code .field) (code .xs) (code .ys) 0 f v → v ≡ map (evaluate (arithmetic code) (padded (code .k) f)) (points code)
+pub shown-word : (code : Code) → Accepted code → {f v : List ℕ} → Shows (code .field) (code .xs) (code .ys) 0 f v → v ≡ map (evaluate (arithmetic code) (padded (code .k) f)) (points code)
 shown-word code a {f} {v} s =
     let value = valueAt (code .field) (code .xs) (code .ys) (padded (code .k) f) in
     is-table value v 0 (λ i h. s .at i (omega arith) (omega (arith, s .size)) ∙ sym (evaluate-pad (laws code a) f (code .k - length f) _))

@@ -6,4 +6,3 @@ pub mod Interpolant
 pub mod Chains
 pub mod Results
 pub mod Every
-pub mod Rows

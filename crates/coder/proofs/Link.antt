@@ -89,7 +89,7 @@ module _ {code : Code} {J : List ℕ} (p : Placed code J) where
   pub chosen : (i : ℕ) → i < length J → pointOf (code .xs) (code .ys) (getD J i 0) ≡ getD (pointsIn code J) i (point 0 0)
   chosen i h = sym (point-at (code .xs) (code .ys) J i h) ∙ ap (λ l. getD l i (point 0 0)) points-same
 
-  on-curve : Points F (code .curve) pts
+  pub on-curve : Points F (code .curve) pts
   on-curve = rw points-same (different-points code accepted are-places)
 
   pub within : (count : ℕ) → count ≤ length J → Within (code .xs) (code .ys) J count

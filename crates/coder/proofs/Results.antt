@@ -69,14 +69,15 @@ module _ {code : Code} {J : List ℕ} (w : Works code J) (i : MessageIndex) wher
   pub unit-length : length unit ≡ code .k
   unit-length = unit-listed .1 ∙ w .full
 
-  pub posed-unit : Posed code J unit
+  posed-unit : Posed code J unit
   posed-unit = record { placed = w .placed; are-symbols = unit-listed .0; lengths = unit-listed .1; at-least = omega (arith, w .full) }
 
-  pub the-row : {v : List ℕ} {r : Bool} → Solving code J (v ≡ solvedWord code J unit) r → v ≡ row code J i
-  unfolding row usable
-  the-row s =
-      the-word code J unit (w .placed .done) (posed-enough posed-unit (λ e. w .works)) (w .full)
-      (s .holds (s .free ∙ ap (λ b. not (b && dependent code J)) (eq-eqb _ _ (w .full)) ∙ w .works))
+  pub unit-symbols : symbols code unit ≡ true
+  unit-symbols = unit-listed .0
+
+  pub the-row : {v : List ℕ} → v ≡ solvedWord code J unit → v ≡ row code J i
+  unfolding row
+  the-row = the-word code J unit (w .placed .done) (posed-enough posed-unit (λ e. w .works)) (w .full)
 
 -- a word that is written to a list of its length
 pub whole-word : {n m : ℕ} (v : List ℕ) → length v ≡ n → m ≡ n → padded m (take n v) ≡ v

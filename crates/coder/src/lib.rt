@@ -1,7 +1,6 @@
 // The operations over the interpolation engine.
 pub mod last_zero;
 pub mod look;
-pub mod matrix;
 pub mod pick;
 pub mod prepare;
 pub mod prepare_word;
@@ -12,6 +11,5 @@ pub mod solve;
 pub mod solve_word;
 pub mod systematic_function;
 pub mod systematic_word;
-pub mod unit_rows;
 pub mod words;
 pub mod work;

@@ -64,7 +64,7 @@ module _ {F : Arithmetic} (K : Field F) {C : Curve} {points : List Point} (p : P
     low-most a = omega (arith, a .sum, weight-lt (a .m) (a .n) (a .lighter))
 
     -- L and U are not both zero at the next place: theorem C
-    one-nonzero : {i : ℕ} {s : State} (a : After F points symbols i s) → i < length points → Zero F (s .low) (place points i) → Zero F (s .high) (place points i) → ⊥
+    pub one-nonzero : {i : ℕ} {s : State} (a : After F points symbols i s) → i < length points → Zero F (s .low) (place points i) → Zero F (s .high) (place points i) → ⊥
     one-nonzero {i} {s} a h z w =
         omega (
           arith,

@@ -23,7 +23,7 @@ use Rattle.engine.specs.Arrays.{Small, Ordered}
 use Rattle.engine.specs.Places.{valueAt}
 use Rattle.engine.proofs.States.{step-zero, step-other}
 use Rattle.engine.proofs.Runs.{step-word}
-use Rattle.values.specs.Values.{Swept, raisedAt, gainedAt, Shows, Shown, ShownIn, Steps, WordSteps}
+use Rattle.values.specs.Values.{Swept, raisedAt, gainedAt, Shows, Shown, ShownIn, Steps, Passes, WordSteps}
 
 -- ---- the values of one function
 
@@ -120,6 +120,23 @@ module _ {m : ℕ} (k : IsField m) {xs : List ℕ} {j e : ℕ} (inside : j < len
         second-size = y .size ∙ second;
         next = λ ys d s v before later small h.
             rw (← step-other (galois m) (point (getD xs j 0) (getD ys j 0)) v s (low-at ys v before later small h) z) (stepped-shown ys v before later small h q x y o);
+      }
+
+-- ---- the same at each point
+
+module _ {m : ℕ} {xs : List ℕ} {j e : ℕ} {l u : List ℕ} where
+  pub keeps-passes : {w : List ℕ} → length u ≡ length xs → getD l j 0 ≡ 0 → Swept (raisedAt m xs (getD xs j 0) u) e u w → Passes m xs j e l u l w
+  keeps-passes h z q =
+      record { kept-low = λ _ i a b. refl; raised-high = λ _ i a b. q .at i a (omega (arith, h)); raised-low = λ n. absurd (n z); cancelled-high = λ n. absurd (n z) }
+
+  pub steps-passes : {t : ℕ} {a b : List ℕ} → length l ≡ length xs → length u ≡ length xs → (getD l j 0 ≡ 0 → ⊥) → t ≡ product m (getD u j 0) (inverse m (getD l j 0))
+      → Swept (raisedAt m xs (getD xs j 0) l) e l a → Swept (gainedAt m t l u) e u b → Passes m xs j e l u a b
+  steps-passes h k n q x y =
+      record {
+        kept-low = λ z. absurd (n z);
+        raised-high = λ z. absurd (n z);
+        raised-low = λ _ i a b. x .at i a (omega (arith, h));
+        cancelled-high = λ _ i a b. y .at i a (omega (arith, k)) ∙ ap (λ t. gainedAt m t l u i) q;
       }
 
 -- ---- the arrays the other way round

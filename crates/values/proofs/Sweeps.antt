@@ -11,12 +11,7 @@ use Rattle.field.specs.Sum.{_⊕_}
 use Rattle.field.specs.Galois.{galois, product}
 use Rattle.elliptic.specs.Pair.{addScaled}
 use Rattle.elliptic.proofs.Function.{length-add}
-use Rattle.values.specs.Values.{Swept, raisedAt, gainedAt}
-
-pub record Sweeping (rule : ℕ → ℕ) (d i : ℕ) (old new : List ℕ) : Type 0 where
-  pub size : length new ≡ length old
-  pub done : (k : ℕ) → d ≤ k → k < i → getD new k 0 ≡ rule k
-  pub rest : (k : ℕ) → i ≤ k → getD new k 0 ≡ getD old k 0
+use Rattle.values.specs.Values.{Swept, Sweeping, raisedAt, gainedAt}
 
 module _ (rule : ℕ → ℕ) (d : ℕ) (old : List ℕ) where
   pub sweeping-none : Sweeping rule d d old old

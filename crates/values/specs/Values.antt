@@ -5,7 +5,7 @@ use mathlib.Core.Bool.{cond}
 use mathlib.Core.List.{List, []}
 use lib.ListN.{length, getD}
 use Rattle.field.specs.Sum.{_⊕_}
-use Rattle.field.specs.Galois.{galois, product, size}
+use Rattle.field.specs.Galois.{galois, product, inverse, size}
 use Rattle.basics.specs.Lists.{table}
 use Rattle.elliptic.specs.declared.Point.{Point}
 use Rattle.elliptic.specs.Curve.{point}
@@ -18,6 +18,12 @@ use Rattle.engine.specs.Places.{valueAt}
 pub record Swept (rule : ℕ → ℕ) (d : ℕ) (old new : List ℕ) : Type 0 where
   pub size : length new ≡ length old
   pub at : (i : ℕ) → d ≤ i → i < length old → getD new i 0 ≡ rule i
+
+-- the same of the elements from d to i only, the later ones as they were
+pub record Sweeping (rule : ℕ → ℕ) (d i : ℕ) (old new : List ℕ) : Type 0 where
+  pub size : length new ≡ length old
+  pub done : (k : ℕ) → d ≤ k → k < i → getD new k 0 ≡ rule k
+  pub rest : (k : ℕ) → i ≤ k → getD new k 0 ≡ getD old k 0
 
 -- the rules of (X + α)·h and g + t·h
 abbrev pub raisedAt : ℕ → List ℕ → ℕ → List ℕ → ℕ → ℕ
@@ -48,6 +54,13 @@ pub record Steps (m : ℕ) (xs : List ℕ) (j e : ℕ) (l u : List ℕ) (low hig
   pub second-size : length b ≡ length xs
   pub next : (ys : List ℕ) (d : ℕ) (s : State) (v : ℕ) → d ≤ j → d ≤ e → Small s → Shown m xs ys d l u low high s
       → ShownIn m xs ys e a b r (step (galois m) (point (getD xs j 0) (getD ys j 0)) v s)
+
+-- such a step at each point: of l and u the one that is not zero there is raised, and the other cancelled by it
+pub record Passes (m : ℕ) (xs : List ℕ) (j e : ℕ) (l u a b : List ℕ) : Type 0 where
+  pub kept-low : getD l j 0 ≡ 0 → (i : ℕ) → e ≤ i → i < length xs → getD a i 0 ≡ getD l i 0
+  pub raised-high : getD l j 0 ≡ 0 → (i : ℕ) → e ≤ i → i < length xs → getD b i 0 ≡ raisedAt m xs (getD xs j 0) u i
+  pub raised-low : (getD l j 0 ≡ 0 → ⊥) → (i : ℕ) → e ≤ i → i < length xs → getD a i 0 ≡ raisedAt m xs (getD xs j 0) l i
+  pub cancelled-high : (getD l j 0 ≡ 0 → ⊥) → (i : ℕ) → e ≤ i → i < length xs → getD b i 0 ≡ gainedAt m (product m (getD u j 0) (inverse m (getD l j 0))) l u i
 
 -- the same with the interpolant, which is to be v at the point, at all points
 pub record WordSteps (m : ℕ) (xs : List ℕ) (j v : ℕ) (l u f : List ℕ) (low high : ℕ) (a b g : List ℕ) (r : Sizes) : Type 0 where

@@ -12,7 +12,7 @@ ghost use Prim.Native.Nat.{_+_, _^_, _<_, _≤_};
 ghost use lib.ListN.{length};
 ghost use lib.Dec.{ltb};
 ghost use Rattle.field.specs.Tables.{Tables};
-ghost use Rattle.values.specs.Values.{Steps, Fits};
+ghost use Rattle.values.specs.Values.{Steps, Passes, Fits};
 
 // How many coefficients the sum of two functions has.
 pub fn longer(a: usize, b: usize) -> usize
@@ -35,7 +35,8 @@ pub fn pair_step(
 ) -> Sizes
     requires { ⌜ Tables m (now powers) (now logs) ⌝ }
     requires { ⌜ (j < length (now xs)) × Fits (now xs) (now l) (now u) n ⌝ }
-    ensures { λ r. ⌜ Steps m (now (xs .entry)) j from (now (l .entry)) (now (u .entry)) (n .low) (n .high) (now (l .exit)) (now (u .exit)) r ⌝ }
+    ensures { λ r. ⌜ Steps m (now (xs .entry)) j from (now (l .entry)) (now (u .entry)) (n .low) (n .high) (now (l .exit)) (now (u .exit)) r
+        × Passes m (now (xs .entry)) j from (now (l .entry)) (now (u .entry)) (now (l .exit)) (now (u .exit)) ⌝ }
 {
     let alpha = xs[j];
     let at = l[j];

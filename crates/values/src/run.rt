@@ -24,7 +24,7 @@ pub fn index_of(place: Place) -> usize
 }
 
 // The values of L = 1 and U = Y.
-fn begin(ys: &[u8], l: &mut [u8], u: &mut [u8])
+pub fn begin(ys: &[u8], l: &mut [u8], u: &mut [u8])
     requires { ⌜ (length (now l) ≡ length (now ys)) × (length (now u) ≡ length (now ys)) ⌝ }
     ensures { λ _. ⌜ (now (l .exit) ≡ table one (length (now (ys .entry)))) × (now (u .exit) ≡ now (ys .entry)) ⌝ }
 {

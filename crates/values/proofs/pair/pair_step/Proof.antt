@@ -1,6 +1,6 @@
 -- The two cases of a step: L is zero at the place, or it is not.
 use mathlib.Core.Path.{refl}
-use Rattle.values.proofs.Steps.{keeps, steps}
+use Rattle.values.proofs.Steps.{keeps, steps, keeps-passes, steps-passes}
 use borrow.Author.Needs.{needs}
 use Rattle.values.proofs.pair.pair_step.Statement.{statement}
 use Rattle.values.proofs.pair.pair_step.Tie as tie
@@ -24,7 +24,9 @@ returns : tie.Need-returns
 returns c =
     let s = c .before .before .before .before .before .before .before .before .before .before .before in
     let fits = s .pre .1 .1 in
-    keeps (s .pre .0 .field) (s .pre .1 .0) _ _ (fits .first) (fits .second) (c .before .before .before .before .before .if1 .taken) (c .before .before .before .raise .ensures) refl refl (c .grown .ensures)
+    let zero = c .before .before .before .before .before .if1 .taken in
+    let swept = c .before .before .before .raise .ensures in
+    (keeps (s .pre .0 .field) (s .pre .1 .0) _ _ (fits .first) (fits .second) zero swept refl refl (c .grown .ensures), keeps-passes (fits .second) zero swept)
 
 slice-read-quotient : tie.Need-slice-read-quotient
 slice-read-quotient c = search needs
@@ -55,7 +57,7 @@ returns-2 c =
     let s = c .before .before .before .before .before .before .before .before .before .before .before .before .before .before .before .before .before .before in
     let fits = s .pre .1 .1 in
     let swept = c .before .before .before .before .before .before .before .gain-raise .ensures in
-    steps (s .pre .0 .field) (s .pre .1 .0) _ _ (fits .first) (fits .second) (c .before .before .before .before .before .before .before .before .before .before .before .before .if1 .left) (c .before .before .before .before .before .before .before .before .before .before .quotient .ensures) (swept .0) (swept .1) (rw (← c .before .before .grown2 .ensures, ← c .before .longer .ensures) (c .ordered .ensures))
+    (steps (s .pre .0 .field) (s .pre .1 .0) _ _ (fits .first) (fits .second) (c .before .before .before .before .before .before .before .before .before .before .before .before .if1 .left) (c .before .before .before .before .before .before .before .before .before .before .quotient .ensures) (swept .0) (swept .1) (rw (← c .before .before .grown2 .ensures, ← c .before .longer .ensures) (c .ordered .ensures)), steps-passes (fits .first) (fits .second) (c .before .before .before .before .before .before .before .before .before .before .before .before .if1 .left) (c .before .before .before .before .before .before .before .before .before .before .quotient .ensures) (swept .0) (swept .1))
 
 pub pair-step-spec : {M : Type 1} → statement M
 pair-step-spec =

@@ -17,7 +17,7 @@ same-length-2 : tie.Need-same-length-2
 same-length-2 c = search needs
 
 returns : tie.Need-returns
-returns c = rw (c .before .before .before .before .before .before .before .before .if1 .taken) (steps-round (c .swapped .ensures) (c .before .before .before .before .before .pair-step .ensures))
+returns c = rw (c .before .before .before .before .before .before .before .before .if1 .taken) (steps-round (c .swapped .ensures) (c .before .before .before .before .before .pair-step .ensures .0))
 
 pair-step-requires-2 : tie.Need-pair-step-requires-2
 pair-step-requires-2 c κs = search needs
@@ -29,7 +29,7 @@ same-length-4 : tie.Need-same-length-4
 same-length-4 c = search needs
 
 returns-2 : tie.Need-returns-2
-returns-2 c = rw (c .before .before .before .before .before .before .before .if1 .left) (c .before .before .before .before .pair-step2 .ensures)
+returns-2 c = rw (c .before .before .before .before .before .before .before .if1 .left) (c .before .before .before .before .pair-step2 .ensures .0)
 
 pub pair-turn-spec : {M : Type 1} → statement M
 pair-turn-spec =

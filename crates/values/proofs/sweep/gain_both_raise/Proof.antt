@@ -5,8 +5,8 @@ use native.Mathlib.Omega.{arith}
 use lib.ListN.{length}
 use borrow.Author.Needs.{needs}
 use Rattle.engine.proofs.Laws.{logged, by-logged}
-use Rattle.values.specs.Values.{raisedAt, gainedAt}
-use Rattle.values.proofs.Sweeps.{Sweeping, sweeping-none, sweeping-turn, sweeping-all, raised-by, gained-by}
+use Rattle.values.specs.Values.{Sweeping, raisedAt, gainedAt}
+use Rattle.values.proofs.Sweeps.{sweeping-none, sweeping-turn, sweeping-all, raised-by, gained-by}
 use Rattle.values.proofs.sweep.gain_both_raise.Statement.{statement}
 use Rattle.values.proofs.sweep.gain_both_raise.Tie as tie
 

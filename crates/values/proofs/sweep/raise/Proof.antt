@@ -4,8 +4,8 @@ use Prim.Native.Nat.{_-_}
 use native.Mathlib.Omega.{arith}
 use lib.ListN.{length}
 use borrow.Author.Needs.{needs}
-use Rattle.values.specs.Values.{raisedAt, gainedAt}
-use Rattle.values.proofs.Sweeps.{Sweeping, sweeping-none, sweeping-turn, sweeping-all, raised-by}
+use Rattle.values.specs.Values.{Sweeping, raisedAt, gainedAt}
+use Rattle.values.proofs.Sweeps.{sweeping-none, sweeping-turn, sweeping-all, raised-by}
 use Rattle.values.proofs.sweep.raise.Statement.{statement}
 use Rattle.values.proofs.sweep.raise.Tie as tie
 

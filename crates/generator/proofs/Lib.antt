@@ -1,0 +1,4 @@
+-- The laws of the rows.
+pub mod Updates
+pub mod Adding
+pub mod Words

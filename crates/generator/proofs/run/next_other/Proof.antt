@@ -1,0 +1,16 @@
+-- By cases.
+use borrow.Author.Tests.{eq-eqb, ne-eqb}
+use Rattle.generator.proofs.run.next_other.Statement.{statement}
+use Rattle.generator.proofs.run.next_other.Tie as tie
+
+returns : tie.Need-returns
+returns c = rw (eq-eqb _ _ (c .before .if1 .taken), ne-eqb _ _ (c .if2 .taken))
+
+returns-2 : tie.Need-returns-2
+returns-2 c = rw (eq-eqb _ _ (c .before .if1 .taken), eq-eqb _ _ (c .if2 .left))
+
+returns-3 : tie.Need-returns-3
+returns-3 c = rw (ne-eqb _ _ (c .if1 .left))
+
+pub next-other-spec : {M : Type 1} → statement M
+next-other-spec = tie.close (tie.spec returns returns-2 returns-3)

@@ -1,0 +1,2 @@
+-- What the arrays of the rows hold.
+pub mod Rows

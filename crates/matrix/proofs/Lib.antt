@@ -1,0 +1,3 @@
+-- The laws of Matrix.
+pub mod Joined
+pub mod Theory

@@ -1,0 +1,2 @@
+-- What the operation works on.
+pub mod Given

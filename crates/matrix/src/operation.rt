@@ -1,0 +1,115 @@
+// Matrix: the codewords of all unit messages at k places.
+use crate::write::write_rows;
+use basics::Answer;
+use basics::Refusal;
+use code::lists::all_different;
+use code::lists::all_places;
+use code::test::test_code;
+use coder::last_zero::last_zero;
+use coder::work::ROOM;
+use coder::work::clear_room;
+use codewords::Parameters;
+use field::logarithms;
+use field::powers;
+ghost use mathlib.Core.Path.{_≡_};
+ghost use Prim.Native.Nat.{_*_, _≤_};
+ghost use lib.ListN.{length};
+ghost use Rattle.basics.specs.Outcome.{Meets};
+ghost use Rattle.basics.specs.declared.Answer.the-variants.{Done};
+ghost use Rattle.field.specs.Tables.{Tables};
+ghost use Rattle.codewords.specs.Code.{codeOf, codeAnswer};
+ghost use Rattle.coder.specs.Given.{Placed};
+ghost use Rattle.coder.specs.Outcomes.{room, matrixOutcome};
+ghost use Rattle.coder.specs.Stages.{matrixRun, matrixPlaced, matrixTested};
+
+// Matrix of k different places.
+fn matrix_run(
+    p: Parameters,
+    powers: &[u8; 255],
+    logs: &[u8; 256],
+    xs: &[u8],
+    ys: &[u8],
+    places: &[u16],
+    out: &mut [u8],
+    work: &mut [u8],
+) -> Answer
+    requires { ⌜ Tables (p .field) (now powers) (now logs) ⌝ }
+    requires { ⌜ Placed (codeOf p (now xs) (now ys)) (now places) × (length (now places) ≡ p .k) × (length (now out) ≡ p .k * length (now xs)) × (room ≤ length (now work)) ⌝ }
+    ensures { λ r. ⌜ Meets (matrixRun (codeOf p (now (xs .entry)) (now (ys .entry))) (now (places .entry)) (now (work .entry))) r
+        (now (out .entry), now (work .entry)) (now (out .exit), now (work .exit)) ⌝ }
+{
+    if last_zero(p, powers, logs, xs, ys, places) {
+        return Answer::Refused(Refusal::Dependent);
+    }
+    write_rows(p, powers, logs, xs, ys, places, out);
+    clear_room(work);
+    Answer::Done
+}
+
+// Matrix of lists that have the right lengths.
+fn matrix_placed(
+    p: Parameters,
+    xs: &[u8],
+    ys: &[u8],
+    places: &[u16],
+    out: &mut [u8],
+    work: &mut [u8],
+) -> Answer
+    requires { ⌜ codeAnswer (codeOf p (now xs) (now ys)) ≡ Done ⌝ }
+    requires { ⌜ (length (now places) ≡ p .k) × (length (now out) ≡ p .k * length (now xs)) × (room ≤ length (now work)) ⌝ }
+    ensures { λ r. ⌜ Meets (matrixPlaced (codeOf p (now (xs .entry)) (now (ys .entry))) (now (places .entry)) (now (work .entry))) r
+        (now (out .entry), now (work .entry)) (now (out .exit), now (work .exit)) ⌝ }
+{
+    if !all_places(xs.len(), places) {
+        return Answer::Refused(Refusal::Place);
+    }
+    if !all_different(places) {
+        return Answer::Refused(Refusal::RepeatedPlace);
+    }
+    let m = p.field;
+    matrix_run(p, &powers(m), &logarithms(m), xs, ys, places, out, work)
+}
+
+// Matrix of a code that passed the code test, so that k·n is small.
+fn matrix_tested(
+    p: Parameters,
+    xs: &[u8],
+    ys: &[u8],
+    places: &[u16],
+    out: &mut [u8],
+    work: &mut [u8],
+) -> Answer
+    requires { ⌜ codeAnswer (codeOf p (now xs) (now ys)) ≡ Done ⌝ }
+    ensures { λ r. ⌜ Meets (matrixTested (codeOf p (now (xs .entry)) (now (ys .entry))) (now (places .entry)) (now (out .entry)) (now (work .entry))) r
+        (now (out .entry), now (work .entry)) (now (out .exit), now (work .exit)) ⌝ }
+{
+    if places.len() != p.k {
+        return Answer::Refused(Refusal::Length);
+    }
+    if out.len() != p.k * xs.len() {
+        return Answer::Refused(Refusal::Length);
+    }
+    if work.len() < ROOM {
+        return Answer::Refused(Refusal::Length);
+    }
+    matrix_placed(p, xs, ys, places, out, work)
+}
+
+// The k rows of n symbols.
+pub fn matrix(
+    code: Parameters,
+    xs: &[u8],
+    ys: &[u8],
+    places: &[u16],
+    out: &mut [u8],
+    work: &mut [u8],
+) -> Answer
+    ensures { λ r. ⌜ Meets (matrixOutcome (codeOf code (now (xs .entry)) (now (ys .entry))) (now (places .entry)) (now (out .entry)) (now (work .entry))) r
+        (now (out .entry), now (work .entry)) (now (out .exit), now (work .exit)) ⌝ }
+{
+    let tested = test_code(code, xs, ys);
+    if let Answer::Done = tested {
+        return matrix_tested(code, xs, ys, places, out, work);
+    }
+    tested
+}
