@@ -185,7 +185,7 @@ module _ {code : Code} {J : List ℕ} (w : Works code J) {rx others : List ℕ} 
 
   -- THEOREM: the entries that the factors give are the row
   pub the-entries : {l u a b h : List ℕ} → Rows (code .field) (code .xs) (code .ys) J rx others (code .k) l u a b h (code .k) → (j : ℕ) → j < code .k
-      → table (entryAt (code .field) (code .xs) l u (getD rx j 0) (indexAt J j) (getD a j 0) (getD b j 0) (getD h j 0)) (length (code .xs)) ≡ row code J (index j)
+      → table (entryAt (code .field) (code .xs) l u (getD (code .xs) (indexAt J j) 0) (indexAt J j) (getD a j 0) (getD b j 0) (getD h j 0)) (length (code .xs)) ≡ row code J (index j)
   unfolding unitMessage
   the-entries {l} {u} {a} {b} {h} rows j g =
       let m = code .field in
@@ -196,7 +196,7 @@ module _ {code : Code} {J : List ℕ} (w : Works code J) {rx others : List ℕ} 
       = table-as _ f n (λ t y. entry-is (accepted p .field) (rows .row j g) y (first-lt (accepted p) t y) (rw (ch .own j g) (first-lt (accepted p) (indexAt J j) (inside j g))) (able .word-lt j (code .k) t (omega arith) y)
       (λ e. ap f e ∙ own-value j g) (λ e d. the-other (accepted p) (inside j g) (ch .other j g) y (e ∙ ch .own j g) d)) in
       let shown : Shows m (code .xs) (code .ys) 0 word (table f n) = record { size = length-table f n; at = λ t x y. getD-table f n t 0 y } in
-      same ∙ the-row w (index j) (shown-word code (accepted p) shown ∙ ap (λ f. map (evaluate (arithmetic code) f) (points code)) (solution-is j))
+      ap (λ x. table (entryAt m (code .xs) l u x (indexAt J j) (getD a j 0) (getD b j 0) (getD h j 0)) n) (sym (ch .own j g)) ∙ same ∙ the-row w (index j) (shown-word code (accepted p) shown ∙ ap (λ f. map (evaluate (arithmetic code) f) (points code)) (solution-is j))
 
 -- ---- what the arrays hold
 

@@ -7,8 +7,10 @@ use Rattle.codewords.specs.Code.{Code}
 use Rattle.coder.specs.Given.{Works}
 use Rattle.generator.specs.Rows.{RowLists, Chosen, Rows}
 
--- the factors of all rows of a usable choice, and L and U by their values
-pub record Factored (code : Code) (J rx others l u a b h : List ℕ) : Type 0 where
+-- the factors of all rows of a usable choice, and L and U by their values; rx and others are the lists that they were computed with
+pub record Factored (code : Code) (J l u a b h : List ℕ) : Type 0 where
+  pub rx : List ℕ
+  pub others : List ℕ
   pub works : Works code J
   pub lists : RowLists rx others (code .xs) a b h (code .k)
   pub chosen : Chosen (code .xs) J rx others (code .k)

@@ -23,8 +23,6 @@ fn fill_rows(
     xs: &[u8],
     ys: &[u8],
     places: &[u16],
-    rx: &[u8],
-    others: &[u16],
     l: &[u8],
     u: &[u8],
     a: &[u8],
@@ -33,7 +31,7 @@ fn fill_rows(
     out: &mut [u8],
 )
     requires { ⌜ Tables (p .field) (now powers) (now logs) ⌝ }
-    requires { ⌜ Factored (codeOf p (now xs) (now ys)) (now places) (now rx) (now others) (now l) (now u) (now a) (now b) (now h)
+    requires { ⌜ Factored (codeOf p (now xs) (now ys)) (now places) (now l) (now u) (now a) (now b) (now h)
         × (length (now out) ≡ p .k * length (now xs)) ⌝ }
     ensures { λ _. ⌜ now (out .exit) ≡ joined (matrix (codeOf p (now (xs .entry)) (now (ys .entry))) (now (places .entry))) ⌝ }
 {
@@ -44,13 +42,14 @@ fn fill_rows(
     while i < k {
         let place = places[i];
         let c = index_of(Place(place));
+        let x = xs[c];
         let start = i * n;
         let end = start + n;
         fill_row(
             m,
             powers,
             logs,
-            rx[i],
+            x,
             c,
             a[i],
             b[i],
@@ -64,7 +63,7 @@ fn fill_rows(
     }
 }
 
-// The factors of all rows, and then their entries. The arrays are lent.
+// The factors of all rows, and then their entries. The arrays are lent; `over` is for the other points over the places' coordinates.
 fn rows_in(
     p: Parameters,
     powers: &[u8; 255],
@@ -73,7 +72,7 @@ fn rows_in(
     ys: &[u8],
     places: &[u16],
     rx: &mut [u8],
-    others: &mut [u16],
+    over: &mut [u16],
     l: &mut [u8],
     u: &mut [u8],
     a: &mut [u8],
@@ -84,44 +83,14 @@ fn rows_in(
     requires { ⌜ Tables (p .field) (now powers) (now logs) ⌝ }
     requires { ⌜ Works (codeOf p (now xs) (now ys)) (now places) × (length (now l) ≡ length (now xs)) × (length (now u) ≡ length (now xs))
         × (length (now out) ≡ p .k * length (now xs)) ⌝ }
-    requires { ⌜ (288 ≤ length (now rx)) × (288 ≤ length (now others)) × (288 ≤ length (now a)) × (288 ≤ length (now b)) × (288 ≤ length (now h)) ⌝ }
+    requires { ⌜ (288 ≤ length (now rx)) × (288 ≤ length (now over)) × (288 ≤ length (now a)) × (288 ≤ length (now b)) × (288 ≤ length (now h)) ⌝ }
     ensures { λ _. ⌜ now (out .exit) ≡ joined (matrix (codeOf p (now (xs .entry)) (now (ys .entry))) (now (places .entry))) ⌝ }
 {
     let m = p.field;
     let k = p.k;
-    choose(xs, places, k, rx, others);
-    run_rows(
-        m,
-        powers,
-        logs,
-        xs,
-        ys,
-        places,
-        k,
-        rx,
-        others,
-        l,
-        u,
-        a,
-        b,
-        h,
-    );
-    fill_rows(
-        p,
-        powers,
-        logs,
-        xs,
-        ys,
-        places,
-        rx,
-        others,
-        l,
-        u,
-        a,
-        b,
-        h,
-        out,
-    );
+    choose(xs, places, k, rx, over);
+    run_rows(m, powers, logs, xs, ys, places, k, rx, over, l, u, a, b, h);
+    fill_rows(p, powers, logs, xs, ys, places, l, u, a, b, h, out);
 }
 
 // The same with arrays of its own.

@@ -23,14 +23,16 @@ run-rows-requires c κs = let s = c .before .before .before .before .before .bef
     (s .pre .0, ((code-coordinates (w .placed), s .pre .1 .0 .1, s .pre .1 .0 .2, may-run (w .placed) [] (no-symbols _) _ (omega arith) (omega (arith, w .full))), (lists, k .ensures, able w (k .ensures))))
 
 fill-rows-requires : tie.Need-fill-rows-requires
-fill-rows-requires c κs = let s = c .before .before .before .before .before .before .before .before .before .before .before .before .before .before .before .before .before .before .before .before .before .before .before .before .before .before .before .before .before .before .before .before .before .before .before .before .before .before .before .before .before .before .before .before in
+fill-rows-requires c κs = let s = c .before .before .before .before .before .before .before .before .before .before .before .before .before .before .before .before .before .before .before .before .before .before .before .before .before .before .before .before .before .before .before .before .before .before .before .before .before .before .before .before .before .before in
     let w = s .pre .1 .0 .0 in
     let rooms = s .pre .1 .1 in
-    let k = c .before .before .before .before .before .before .before .before .before .before .before .before .before .before .before .before .before .before .before .before .before .before .before .before .before .before .before .before .before .before .choose in
-    let r = c .before .before .before .before .before .before .before .before .before .before .before .before .before .before .before .before .before .before .run-rows in (
+    let k = c .before .before .before .before .before .before .before .before .before .before .before .before .before .before .before .before .before .before .before .before .before .before .before .before .before .before .before .before .choose in
+    let r = c .before .before .before .before .before .before .before .before .before .before .before .before .before .before .before .before .run-rows in (
       s .pre .0,
       (
         record {
+          rx = _;
+          others = _;
           works = w;
           lists = row-lists w (omega (arith, k .kept .1 .1 .1 .0, rooms .0)) (omega (arith, k .kept .1 .1 .1 .1 .0, rooms .1)) (omega (arith, r .kept .1 .1 .1 .1 .1 .1 .1 .1 .1 .1 .1 .0, rooms .2)) (omega (arith, r .kept .1 .1 .1 .1 .1 .1 .1 .1 .1 .1 .1 .1 .0, rooms .3)) (omega (arith, r .kept .1 .1 .1 .1 .1 .1 .1 .1 .1 .1 .1 .1 .1 .0, rooms .4)) (k .ensures);
           chosen = k .ensures;
@@ -43,10 +45,10 @@ fill-rows-requires c κs = let s = c .before .before .before .before .before .be
     )
 
 same-length : tie.Need-same-length
-same-length c = c .before .before .before .before .before .before .before .before .before .before .before .before .before .before .before .before .before .before .before .before .before .before .before .before .before .before .before .before .before .before .before .before .before .choose .kept .1 .1 .1 .0
+same-length c = c .before .before .before .before .before .before .before .before .before .before .before .before .before .before .before .before .before .before .before .before .before .before .before .before .before .before .before .before .before .before .before .choose .kept .1 .1 .1 .0
 
 same-length-2 : tie.Need-same-length-2
-same-length-2 c = c .before .before .before .before .before .before .before .before .before .before .before .before .before .before .before .before .before .before .before .before .before .before .before .before .before .before .before .before .before .before .before .before .before .choose .kept .1 .1 .1 .1 .0
+same-length-2 c = search needs
 
 same-length-3 : tie.Need-same-length-3
 same-length-3 c = search needs
