@@ -4,19 +4,6 @@ extern "C" {
     pub fn vakhudle_sheet(text: *const u8, text_len: usize, out: *mut u8, out_len: usize) -> i32;
     pub fn vakhudle_products(field: u8, a: *const u8, a_len: usize, b: *const u8, b_len: usize, out: *mut u8, out_len: usize) -> i32;
 
-    pub fn vakhudle_points(
-        field: u8,
-        g1: u8,
-        g2: u8,
-        g3: u8,
-        g4: u8,
-        g6: u8,
-        xs_out: *mut u8,
-        xs_out_len: usize,
-        ys_out: *mut u8,
-        ys_out_len: usize,
-    ) -> i32;
-
     pub fn vakhudle_means(
         stamps: *const u32,
         stamps_len: usize,
@@ -28,26 +15,26 @@ extern "C" {
     ) -> i32;
 }
 
-/// Declares operations over a code: each takes the code, and then pointers to lists, each with its length behind it.
-macro_rules! over_code {
-    ($($name:ident($($list:ident: $pointer:ty),+);)+) => {
+/// Declares operations over a curve: each takes the curve, what it names before the semicolon, and then pointers to lists, each with its length behind it.
+macro_rules! over_curve {
+    ($($name:ident($($value:ident: $type:ty),*; $($list:ident: $pointer:ty),+);)+) => {
         extern "C" {
-            $(pub fn $name(
-                field: u8,
-                g1: u8,
-                g2: u8,
-                g3: u8,
-                g4: u8,
-                g6: u8,
-                xs: *const u8,
-                xs_len: usize,
-                ys: *const u8,
-                ys_len: usize,
-                k: usize,
-                $($list: $pointer, _: usize),+
-            ) -> i32;)+
+            $(pub fn $name(field: u8, g1: u8, g2: u8, g3: u8, g4: u8, g6: u8, $($value: $type,)* $($list: $pointer, _: usize),+) -> i32;)+
         }
     };
+}
+
+/// The same over a code.
+macro_rules! over_code {
+    ($($name:ident($($list:ident: $pointer:ty),+);)+) => {
+        over_curve! {
+            $($name(xs: *const u8, xs_len: usize, ys: *const u8, ys_len: usize, k: usize; $($list: $pointer),+);)+
+        }
+    };
+}
+
+over_curve! {
+    vakhudle_points(; xs_out: *mut u8, ys_out: *mut u8);
 }
 
 over_code! {

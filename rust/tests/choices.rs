@@ -87,26 +87,28 @@ fn opposites(code: &OwnCode) -> (Vec<[u16; 2]>, Vec<u16>) {
     (pairs, own)
 }
 
-/// Every accepted curve over 4 elements with all its points, every dimension, and every choice.
+/// The operations at a choice, and that it is dependent exactly if its points add up to zero.
+fn dependent_at(code: &OwnCode, places: &[u16], random: &mut Random) -> bool {
+    let dependent = all_at(code, places, random);
+    assert_eq!(dependent, adds_up_to_zero(code, places));
+    dependent
+}
+
 #[test]
 fn every_choice_over_4_elements() {
-    let mut random = Random(61);
-    let (mut choices, mut dependent) = (0, 0);
+    common::places::every_choice_over_4_elements(&mut Random(61), dependent_at);
+}
+
+/// Heard places of every accepted curve over 4 elements with all its points, for every dimension.
+#[test]
+fn heard_places_over_4_elements() {
+    let mut random = Random(67);
     for mut code in whole_codes(2, |_| true) {
         for k in 1..code.n() {
             code.k = k;
-            for set in (0..1u32 << code.n()).filter(|set| set.count_ones() as usize == k) {
-                let mut places: Vec<u16> = (1..=code.n() as u16).filter(|p| set >> (p - 1) & 1 == 1).collect();
-                random.shuffle(&mut places);
-                let is_dependent = all_at(&code, &places, &mut random);
-                assert_eq!(is_dependent, adds_up_to_zero(&code, &places));
-                choices += 1;
-                dependent += is_dependent as u32;
-            }
             heard_at(&code, &mut random);
         }
     }
-    assert_eq!((choices, dependent), (25_808, 3_440));
 }
 
 /// A sample of the curves over 8 elements, every dimension, and some choices of each.
@@ -119,12 +121,10 @@ fn choices_over_8_elements() {
             code.k = k;
             for _ in 0..4 {
                 let places = some_places(code.n(), k, &mut random);
-                let is_dependent = all_at(&code, &places, &mut random);
-                assert_eq!(is_dependent, adds_up_to_zero(&code, &places));
-                dependent += is_dependent as u32;
+                dependent += dependent_at(&code, &places, &mut random) as u32;
             }
             if let Some(places) = dependent_choice(&code, 2, &mut random) {
-                assert!(all_at(&code, &places, &mut random) && adds_up_to_zero(&code, &places));
+                assert!(dependent_at(&code, &places, &mut random));
                 dependent += 1;
             }
         }
@@ -134,21 +134,10 @@ fn choices_over_8_elements() {
 
 #[test]
 fn random_codes() {
-    let mut random = Random(64);
-    for field in FIELDS {
-        let mut dependent = 0;
-        for _ in 0..if field < 7 { 200 } else { 50 } {
-            let code = OwnCode::random(field, &mut random);
-            let places = some_places(code.n(), code.k, &mut random);
-            assert_eq!(all_at(&code, &places, &mut random), adds_up_to_zero(&code, &places));
-            if let Some(places) = dependent_choice(&code, 3, &mut random) {
-                assert!(all_at(&code, &places, &mut random) && adds_up_to_zero(&code, &places));
-                dependent += 1;
-            }
-            heard_at(&code, &mut random);
-        }
-        assert!(dependent > 10, "field {field}: {dependent}");
-    }
+    choices_of_random_codes(&mut Random(64), [200, 50], |code, places, random| {
+        heard_at(code, random);
+        dependent_at(code, places, random)
+    });
 }
 
 /// Choices made of opposite pairs are dependent; with a point that is its own opposite in place of the last, or of a pair, they aren't.

@@ -1,7 +1,9 @@
 //! Matrix against elimination of the generator matrix, against the words of the unit messages, and against listing all codewords.
 mod common;
-use common::each::tests_of_each;
-use common::places::{adds_up_to_zero, curve_a, daily, dependent_choice, some_places, symbols_at, usable_choice, whole_codes, word_of, Job, Matrix};
+use common::each::{listed_codes, tests_of_each};
+use common::places::{
+    adds_up_to_zero, choices_of_random_codes, curve_a, daily, dependent_choice, some_places, symbols_at, usable_choice, word_of, Job, Matrix,
+};
 use common::{fullest_curve, Call, OwnCode, FIELDS};
 use vakhudle::plain::field::product;
 use vakhudle::plain::{code, Random};
@@ -44,44 +46,24 @@ fn at(code: &OwnCode, places: &[u16], random: &mut Random) -> bool {
     false
 }
 
-/// Every accepted curve over 4 elements with all its points, every dimension, and every choice.
 #[test]
 fn every_choice_over_4_elements() {
-    let mut random = Random(81);
-    let (mut choices, mut dependent) = (0, 0);
-    for mut code in whole_codes(2, |_| true) {
-        for k in 1..code.n() {
-            code.k = k;
-            for set in (0..1u32 << code.n()).filter(|set| set.count_ones() as usize == k) {
-                let mut places: Vec<u16> = (1..=code.n() as u16).filter(|p| set >> (p - 1) & 1 == 1).collect();
-                random.shuffle(&mut places);
-                choices += 1;
-                dependent += at(&code, &places, &mut random) as u32;
-            }
-        }
-    }
-    assert_eq!((choices, dependent), (25_808, 3_440));
+    common::places::every_choice_over_4_elements(&mut Random(81), at);
 }
 
 /// The definition itself: row i is the one codeword of all that agrees with its message.
 #[test]
 fn all_codewords_over_4_elements() {
-    let mut random = Random(82);
-    for mut code in whole_codes(2, |_| true) {
-        for k in 1..code.n().min(5) {
-            code.k = k;
-            let functions = (0..1u32 << (2 * k)).map(|f| (0..k).map(|j| (f >> (2 * j) & 3) as u8).collect());
-            let word = |f: Vec<u8>| (0..code.n()).map(|i| code::value(2, &f, code.xs[i], code.ys[i])).collect();
-            let words: Vec<Vec<u8>> = functions.map(word).collect();
-            for _ in 0..4 {
-                let places = some_places(code.n(), k, &mut random);
-                let agreeing = |i| words.iter().filter(|w| symbols_at(w, &places) == unit(k, i)).collect::<Vec<_>>();
-                let (answer, out) = job(&code, &places).result(&mut random);
-                for i in 0..k {
-                    match agreeing(i)[..] {
-                        [word] => assert_eq!((answer, &out[i * code.n()..(i + 1) * code.n()]), (Ok(0), &word[..])),
-                        ref several => assert!(answer == Err(12) && [0, 4].contains(&several.len())),
-                    }
+    let random = &mut Random(82);
+    for listed in listed_codes() {
+        let (n, k) = (listed.code.n(), listed.code.k);
+        for _ in 0..4 {
+            let places = some_places(n, k, random);
+            let (answer, out) = job(&listed.code, &places).result(random);
+            for i in 0..k {
+                match listed.agreeing(&places, &unit(k, i))[..] {
+                    [word] => assert_eq!((answer, &out[i * n..(i + 1) * n]), (Ok(0), &listed.words[word][..])),
+                    ref several => assert!(answer == Err(12) && [0, 4].contains(&several.len())),
                 }
             }
         }
@@ -90,19 +72,7 @@ fn all_codewords_over_4_elements() {
 
 #[test]
 fn random_codes() {
-    let mut random = Random(83);
-    for field in FIELDS {
-        let mut dependent = 0;
-        for _ in 0..if field < 7 { 200 } else { 20 } {
-            let code = OwnCode::random(field, &mut random);
-            at(&code, &some_places(code.n(), code.k, &mut random), &mut random);
-            if let Some(places) = dependent_choice(&code, 3, &mut random) {
-                assert!(at(&code, &places, &mut random));
-                dependent += 1;
-            }
-        }
-        assert!(dependent > 3, "field {field}: {dependent}");
-    }
+    choices_of_random_codes(&mut Random(83), [200, 20], at);
 }
 
 /// The least and the largest dimension.

@@ -1,6 +1,6 @@
 //! Pick against elimination, and against the list of all codewords.
 mod common;
-use common::each::{listed_codes, tests_of_each};
+use common::each::{listed_places, tests_of_each};
 use common::places::{curve_a, dependent_choice, some_places, symbols_at, Job, Pick};
 use common::{fullest_curve, OwnCode};
 use std::collections::HashSet;
@@ -11,23 +11,19 @@ tests_of_each! { Pick }
 /// Rank by rank, a place is kept if the codewords take every combination of symbols at those kept so far and it.
 #[test]
 fn all_codewords_over_4_elements() {
-    let random = &mut Random(62);
-    for listed in listed_codes() {
-        let (n, k) = (listed.code.n(), listed.code.k);
-        for _ in 0..8 {
-            let ranked = some_places(n, random.between(k as i64, n as i64) as usize, random);
-            let mut kept = vec![];
-            for &p in &ranked {
-                kept.push(p);
-                let combinations: HashSet<Vec<u8>> = listed.words.iter().map(|word| symbols_at(word, &kept)).collect();
-                if kept.len() > k || combinations.len() != 1 << (2 * kept.len()) {
-                    kept.pop();
-                }
+    listed_places(&mut Random(62), |listed, ranked, random| {
+        let k = listed.code.k;
+        let mut kept = vec![];
+        for &p in &ranked {
+            kept.push(p);
+            let combinations: HashSet<Vec<u8>> = listed.words.iter().map(|word| symbols_at(word, &kept)).collect();
+            if kept.len() > k || combinations.len() != 1 << (2 * kept.len()) {
+                kept.pop();
             }
-            let expected = if kept.len() == k { (Ok(0), kept) } else { (Err(12), vec![]) };
-            assert_eq!(Job::<Pick>::new(&listed.code, &ranked, &[]).result(random), expected);
         }
-    }
+        let expected = if kept.len() == k { (Ok(0), kept) } else { (Err(12), vec![]) };
+        assert_eq!(Job::<Pick>::new(&listed.code, &ranked, &[]).result(random), expected);
+    });
 }
 
 /// All places are ranked, and the first k of them are dependent.

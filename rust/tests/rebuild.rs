@@ -1,6 +1,6 @@
 //! Rebuild against elimination, and against the list of all codewords.
 mod common;
-use common::each::{listed_codes, tests_of_each};
+use common::each::{listed_places, tests_of_each};
 use common::places::{curve_a, some_places, symbols_at, Job, Rebuild};
 use common::Call;
 use vakhudle::plain::Random;
@@ -10,24 +10,20 @@ tests_of_each! { Rebuild }
 /// The symbols of a codeword at k places or more, one of them changed or not.
 #[test]
 fn all_codewords_over_4_elements() {
-    let random = &mut Random(62);
-    for listed in listed_codes() {
-        let (n, k) = (listed.code.n(), listed.code.k);
-        for _ in 0..8 {
-            let places = some_places(n, random.between(k as i64, n as i64) as usize, random);
-            let mut received = symbols_at(&listed.words[random.below(listed.words.len() as u64) as usize], &places);
-            if random.once_in(2) {
-                received[random.below(places.len() as u64) as usize] = random.below(4) as u8;
-            }
-            let expected = match listed.agreeing(&places, &received)[..] {
-                _ if places.len() == k && !listed.zero_at(&places).is_empty() => (Err(12), vec![]),
-                [] => (Err(14), vec![]),
-                [i] => (Ok(0), listed.words[i].clone()),
-                ref several => panic!("{several:?}"),
-            };
-            assert_eq!(Job::<Rebuild>::new(&listed.code, &places, &received).result(random), expected);
+    listed_places(&mut Random(62), |listed, places, random| {
+        let k = listed.code.k;
+        let mut received = symbols_at(&listed.words[random.below(listed.words.len() as u64) as usize], &places);
+        if random.once_in(2) {
+            received[random.below(places.len() as u64) as usize] = random.below(4) as u8;
         }
-    }
+        let expected = match listed.agreeing(&places, &received)[..] {
+            _ if places.len() == k && !listed.zero_at(&places).is_empty() => (Err(12), vec![]),
+            [] => (Err(14), vec![]),
+            [i] => (Ok(0), listed.words[i].clone()),
+            ref several => panic!("{several:?}"),
+        };
+        assert_eq!(Job::<Rebuild>::new(&listed.code, &places, &received).result(random), expected);
+    });
 }
 
 #[test]

@@ -161,3 +161,14 @@ pub fn listed_codes() -> impl Iterator<Item = Listed> {
         Listed { code, functions, words }
     })
 }
+
+/// Some lists of k different places or more for each of these codes.
+pub fn listed_places(random: &mut Random, mut test: impl FnMut(&Listed, Vec<u16>, &mut Random)) {
+    for listed in listed_codes() {
+        let (n, k) = (listed.code.n(), listed.code.k);
+        for _ in 0..8 {
+            let places = some_places(n, random.between(k as i64, n as i64) as usize, random);
+            test(&listed, places, random);
+        }
+    }
+}

@@ -1,5 +1,5 @@
 //! The operations on chosen places: their calls, acceptable and spoilt, and choices of places.
-use super::{above, agree_with_work, other_length, Call, Filler, OwnCode};
+use super::{above, agree_with_work, other_length, Call, Filler, OwnCode, FIELDS};
 use std::fmt::Debug;
 use std::marker::PhantomData;
 use vakhudle::plain::field::{power, product};
@@ -301,4 +301,38 @@ fn sum(field: u8, [g1, g2, g3, g4, _]: [u8; 5], a: Option<(u8, u8)>, b: Option<(
 pub fn adds_up_to_zero(code: &OwnCode, places: &[u16]) -> bool {
     let points = places.iter().map(|&p| Some((code.xs[p as usize - 1], code.ys[p as usize - 1])));
     points.fold(None, |a, b| sum(code.field, code.curve, a, b)).is_none()
+}
+
+/// Every choice of every accepted curve over 4 elements with all its points, for every dimension. The test answers whether the choice is dependent.
+pub fn every_choice_over_4_elements(random: &mut Random, mut is_dependent: impl FnMut(&OwnCode, &[u16], &mut Random) -> bool) {
+    let (mut choices, mut dependent) = (0, 0);
+    for mut code in whole_codes(2, |_| true) {
+        for k in 1..code.n() {
+            code.k = k;
+            for set in (0..1u32 << code.n()).filter(|set| set.count_ones() as usize == k) {
+                let mut places: Vec<u16> = (1..=code.n() as u16).filter(|p| set >> (p - 1) & 1 == 1).collect();
+                random.shuffle(&mut places);
+                choices += 1;
+                dependent += is_dependent(&code, &places, random) as u32;
+            }
+        }
+    }
+    assert_eq!((choices, dependent), (25_808, 3_440));
+}
+
+/// Choices of random codes over every field, so many in the small ones and so many in the large, and dependent ones made on purpose.
+pub fn choices_of_random_codes(random: &mut Random, [small, large]: [usize; 2], mut is_dependent: impl FnMut(&OwnCode, &[u16], &mut Random) -> bool) {
+    for field in FIELDS {
+        let mut dependent = 0;
+        let count = if field < 7 { small } else { large };
+        for _ in 0..count {
+            let code = OwnCode::random(field, random);
+            is_dependent(&code, &some_places(code.n(), code.k, random), random);
+            if let Some(places) = dependent_choice(&code, 3, random) {
+                assert!(is_dependent(&code, &places, random));
+                dependent += 1;
+            }
+        }
+        assert!(dependent > count / 6, "field {field}: {dependent}");
+    }
 }
