@@ -21,9 +21,9 @@ use Rattle.codewords.specs.Computed.{pointsOf, solved, solution}
 use Rattle.codewords.proofs.Accepted.{Accepted, accepted-done}
 use Rattle.codewords.proofs.Places.{n-points, message-listed}
 use Rattle.codewords.proofs.Computed.{computed}
-use Rattle.coder.specs.Outcomes.{checkSymbols}
-use Rattle.coder.specs.Stages.{placeAt, checkPosed}
-use Rattle.coder.proofs.Link.{padded-full}
+use Rattle.solving.specs.Tests.{checkSymbols, checkPosed}
+use Rattle.coder.specs.Stages.{placeAt}
+use Rattle.solving.proofs.Link.{padded-full}
 
 module _ (code : Code) (done : codeAnswer code ≡ Done) (J : List ℕ) (e : J ≡ table placeAt (n code)) where
   a : Accepted code

@@ -1,7 +1,7 @@
 -- What stands in the arrays after the tests is what the definitions say: the function, its codeword, and whether that agrees.
 use Prim.Native.Nat.{ℕ}
 use mathlib.Core.Path.{_≡_, sym, _∙_, ap}
-use mathlib.Core.Bool.{Bool, true, not, _&&_}
+use mathlib.Core.Bool.{Bool, true}
 use mathlib.Core.List.{List}
 use lib.Dec.{eqb}
 use lib.ListN.{length, take}
@@ -13,13 +13,13 @@ use Rattle.basics.specs.declared.MessageIndex.{MessageIndex}
 use Rattle.basics.proofs.Lists.{both-true, both-left}
 use Rattle.elliptic.specs.Pair.{padded}
 use Rattle.codewords.specs.Code.{Code, codeAnswer}
-use Rattle.codewords.specs.Codewords.{agrees, unitMessage, places, choice, message, symbols, word, agreed, systematicWord, systematicFunction, row, dependent, usable}
+use Rattle.codewords.specs.Codewords.{agrees, unitMessage, places, choice, message, symbols, word, agreed, systematicWord, systematicFunction, row}
 use Rattle.codewords.specs.Computed.{Enough, solution}
 use Rattle.codewords.proofs.Places.{message-listed}
 use Rattle.codewords.proofs.Computed.{computed}
 use Rattle.codewords.proofs.Demand3.{unit-message}
-use Rattle.coder.specs.Given.{Works, Posed, Solving, HoldsFunction, solvedWord}
-use Rattle.coder.proofs.Link.{padded-full, accepted, posed-enough}
+use Rattle.solving.specs.Given.{Works, Posed, HoldsFunction, solvedWord}
+use Rattle.solving.proofs.Link.{padded-full, accepted, posed-enough}
 
 module _ (code : Code) (J us : List ℕ) (done : codeAnswer code ≡ Done) (there : Enough code J us) where
   is-message : message code (solution code J us) ≡ true

@@ -1,4 +1,3 @@
--- What the operations over the interpolation engine answer, and what they leave in the lent memory.
+-- What the operations over places answer, and what they leave in the lent memory.
 pub mod Outcomes
 pub mod Stages
-pub mod Given

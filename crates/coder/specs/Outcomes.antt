@@ -1,45 +1,20 @@
 -- Document 01's operations over places: each tests the code, then lengths, places and symbols in the order of their numbers, and then works.
--- The lent memory is the output and, for operations marked w, the working space.
+-- The lent memory is the output and, for operations marked w, the working space. The tests are those of solving/specs/Tests.antt.
 use Prim.Native.Nat.{ℕ, _*_}
 use mathlib.Core.Bool.{not, _&&_}
 use mathlib.Core.List.{List, [], _∷_, _++_}
 use lib.Dec.{eqb, leb}
-use lib.ListN.{length, drop, replicate}
-use Rattle.basics.specs.declared.Refusal.the-variants.{Length, Place, RepeatedPlace, Symbol, Dependent, TooFew, NoCodeword, Independent}
+use lib.ListN.{length}
+use Rattle.basics.specs.declared.Refusal.the-variants.{Length, Dependent, TooFew, NoCodeword, Independent}
 use Rattle.basics.specs.Outcome.{Outcome, accepted, check}
 use Rattle.codewords.specs.Code.{Code, n, checkCode}
-use Rattle.codewords.specs.Codewords.{allPlaces, placesDiffer, symbols, codeword, recovered, agreed, systematicFunction, systematicWord, matrix, dependent, usable, relation, pick}
-
--- an output, and the working space
-abbrev pub Lent : Type 0
-Lent = List ℕ × List ℕ
-
--- how much of the working space is used: its first bytes are zero after acceptance, and the rest is untouched
-abbrev pub room : ℕ
-room = 8192
-
-abbrev pub cleared : List ℕ → List ℕ
-cleared work = replicate room 0 ++ drop room work
+use Rattle.codewords.specs.Codewords.{codeword, recovered, agreed, systematicFunction, systematicWord, matrix, dependent, usable, relation, pick}
+use Rattle.solving.specs.Tests.{Lent, cleared, checkLength, checkRoom, checkPlaces, checkSymbols}
 
 -- the rows of a matrix one after the other
 abbrev pub joined : List (List ℕ) → List ℕ
 joined [] = []
 joined (r ∷ rs) = r ++ joined rs
-
-module _ {M : Type 0} where
-  -- a list has the length that it must have, and there is room to work
-  abbrev pub checkLength : List ℕ → ℕ → Outcome M → Outcome M
-  checkLength l size o = check (eqb (length l) size) Length o
-
-  abbrev pub checkRoom : List ℕ → Outcome M → Outcome M
-  checkRoom work o = check (leb room (length work)) Length o
-
-  -- places of the code, none of which stands twice
-  abbrev pub checkPlaces : Code → List ℕ → Outcome M → Outcome M
-  checkPlaces code J o = check (allPlaces code J) Place (check (placesDiffer code J) RepeatedPlace o)
-
-  abbrev pub checkSymbols : Code → List ℕ → Outcome M → Outcome M
-  checkSymbols code us o = check (symbols code us) Symbol o
 
 module _ (code : Code) where
   -- Recover: n symbols to k coefficients

@@ -1,16 +1,15 @@
 -- The outcomes of specs/Outcomes.antt from a later test on: of a code that passed its test, and of lists that passed theirs.
-use Prim.{Unit, tt}
 use Prim.Native.Nat.{ℕ, _+_, _*_}
 use mathlib.Core.Bool.{not, _&&_}
 use mathlib.Core.List.{List}
 use lib.Dec.{eqb, leb}
 use lib.ListN.{length}
 use Rattle.basics.specs.declared.Refusal.the-variants.{Length, Dependent, TooFew, NoCodeword, Independent}
-use Rattle.basics.specs.declared.Answer.{Answer}
-use Rattle.basics.specs.Outcome.{Outcome, accepted, check, answer}
+use Rattle.basics.specs.Outcome.{Outcome, accepted, check}
 use Rattle.codewords.specs.Code.{Code, n}
 use Rattle.codewords.specs.Codewords.{codeword, recovered, agreed, systematicFunction, systematicWord, matrix, dependent, usable, relation, pick}
-use Rattle.coder.specs.Outcomes.{Lent, cleared, joined, checkLength, checkRoom, checkPlaces, checkSymbols}
+use Rattle.solving.specs.Tests.{Lent, cleared, checkLength, checkRoom, checkPlaces, checkSymbols, checkPosed}
+use Rattle.coder.specs.Outcomes.{joined}
 
 -- the place with an index in the list of all
 abbrev pub placeAt : ℕ → ℕ
@@ -51,20 +50,6 @@ module _ (code : Code) where
   pickTested ranked out work =
       check (leb (length ranked) (n code)) Length (checkLength out (code .k) (checkRoom work (pickPlaced ranked work)))
 
-  -- the tests of places and symbols from number 9 to 13, and their answer alone
-  abbrev pub checkLists : {M : Type 0} → List ℕ → List ℕ → Outcome M → Outcome M
-  checkLists J us o = checkPlaces code J (checkSymbols code us (check (leb (code .k) (length J)) TooFew o))
-
-  abbrev pub listsAnswer : List ℕ → List ℕ → Answer
-  listsAnswer J us = answer (checkLists {M = Unit {0}} J us (accepted tt))
-
-  -- and with number 12 behind them
-  abbrev pub checkPosed : {M : Type 0} → List ℕ → List ℕ → Outcome M → Outcome M
-  checkPosed J us o = checkLists J us (check (not (eqb (length J) (code .k) && dependent code J)) Dependent o)
-
-  abbrev pub posedAnswer : List ℕ → List ℕ → Answer
-  posedAnswer J us = answer (checkPosed {M = Unit {0}} J us (accepted tt))
-
   -- Systematic function and Systematic word: with k places 12 stands for dependent ones
   abbrev pub functionTested : List ℕ → List ℕ → List ℕ → List ℕ → Outcome Lent
   functionTested J msg out work =
@@ -74,7 +59,7 @@ module _ (code : Code) where
       (accepted (systematicFunction code J msg, cleared work))))))))
 
   abbrev pub functionRun : List ℕ → List ℕ → List ℕ → Outcome Lent
-  functionRun J msg work = checkPosed J msg (accepted (systematicFunction code J msg, cleared work))
+  functionRun J msg work = checkPosed code J msg (accepted (systematicFunction code J msg, cleared work))
 
   abbrev pub wordTested : List ℕ → List ℕ → List ℕ → List ℕ → Outcome Lent
   wordTested J msg out work =
@@ -84,11 +69,11 @@ module _ (code : Code) where
       (accepted (systematicWord code J msg, cleared work))))))))
 
   abbrev pub wordRun : List ℕ → List ℕ → List ℕ → Outcome Lent
-  wordRun J msg work = checkPosed J msg (accepted (systematicWord code J msg, cleared work))
+  wordRun J msg work = checkPosed code J msg (accepted (systematicWord code J msg, cleared work))
 
   -- Rebuild
   abbrev pub rebuildRun : List ℕ → List ℕ → List ℕ → Outcome Lent
-  rebuildRun J us work = checkPosed J us (check (agreed code J us) NoCodeword (accepted (systematicWord code J us, cleared work)))
+  rebuildRun J us work = checkPosed code J us (check (agreed code J us) NoCodeword (accepted (systematicWord code J us, cleared work)))
 
   abbrev pub rebuildTested : List ℕ → List ℕ → List ℕ → List ℕ → Outcome Lent
   rebuildTested J us out work =

@@ -1,8 +1,4 @@
 // Pick: of places ranked best first, the first k that work.
-use crate::last_zero::last_zero;
-use crate::look::last_index;
-use crate::work::ROOM;
-use crate::work::clear_room;
 use basics::Answer;
 use basics::Refusal;
 use code::lists::all_different;
@@ -11,6 +7,10 @@ use code::test::test_code;
 use codewords::Parameters;
 use field::logarithms;
 use field::powers;
+use solving::last_zero::last_zero;
+use solving::look::last_index;
+use solving::work::ROOM;
+use solving::work::clear_room;
 ghost use mathlib.Core.Path.{_≡_};
 ghost use mathlib.Core.List.{[], _∷_, _++_};
 ghost use Prim.Native.Nat.{_-_, _<_, _≤_};
@@ -19,8 +19,9 @@ ghost use Rattle.basics.specs.Outcome.{Meets};
 ghost use Rattle.basics.specs.declared.Answer.the-variants.{Done};
 ghost use Rattle.field.specs.Tables.{Tables};
 ghost use Rattle.codewords.specs.Code.{codeOf, codeAnswer};
-ghost use Rattle.coder.specs.Given.{Placed};
-ghost use Rattle.coder.specs.Outcomes.{room, pickOutcome};
+ghost use Rattle.solving.specs.Given.{Placed};
+ghost use Rattle.solving.specs.Tests.{room};
+ghost use Rattle.coder.specs.Outcomes.{pickOutcome};
 ghost use Rattle.coder.specs.Stages.{pickRun, pickPlaced, pickTested};
 
 // The first places, and at the end of `out` the one with the index `last`.

@@ -1,20 +1,21 @@
 // Rebuild: the codeword that agrees with the symbols at k places or more.
-use crate::prepare_word::prepare_word;
-use crate::words::agrees_at;
-use crate::work::ROOM;
-use crate::work::clear_room;
 use basics::Answer;
 use basics::Refusal;
 use code::test::test_code;
 use codewords::Parameters;
 use engine::write::write_function;
+use solving::prepare_word::prepare_word;
+use solving::words::agrees_at;
+use solving::work::ROOM;
+use solving::work::clear_room;
 ghost use mathlib.Core.Path.{_≡_};
 ghost use Prim.Native.Nat.{_≤_};
 ghost use lib.ListN.{length};
 ghost use Rattle.basics.specs.Outcome.{Meets};
 ghost use Rattle.basics.specs.declared.Answer.the-variants.{Done};
 ghost use Rattle.codewords.specs.Code.{codeOf, codeAnswer};
-ghost use Rattle.coder.specs.Outcomes.{room, rebuildOutcome};
+ghost use Rattle.solving.specs.Tests.{room};
+ghost use Rattle.coder.specs.Outcomes.{rebuildOutcome};
 ghost use Rattle.coder.specs.Stages.{rebuildRun, rebuildTested};
 
 // The tests from number 9 on, and then the result. An array is lent for the word.

@@ -1,13 +1,13 @@
 // Recover: the coefficients of a codeword, from all its symbols.
-use crate::prepare::prepare;
-use crate::words::agrees_all;
-use crate::work::ROOM;
-use crate::work::clear_room;
 use basics::Answer;
 use basics::Refusal;
 use code::test::test_code;
 use codewords::Parameters;
 use engine::write::write_function;
+use solving::prepare::prepare;
+use solving::words::agrees_all;
+use solving::work::ROOM;
+use solving::work::clear_room;
 ghost use mathlib.Core.Path.{_≡_};
 ghost use Prim.Native.Nat.{_+_, _<_, _≤_};
 ghost use lib.ListN.{length};
@@ -15,7 +15,8 @@ ghost use Rattle.basics.specs.Lists.{table};
 ghost use Rattle.basics.specs.Outcome.{Meets};
 ghost use Rattle.basics.specs.declared.Answer.the-variants.{Done};
 ghost use Rattle.codewords.specs.Code.{codeOf, codeAnswer};
-ghost use Rattle.coder.specs.Outcomes.{room, recoverOutcome};
+ghost use Rattle.solving.specs.Tests.{room};
+ghost use Rattle.coder.specs.Outcomes.{recoverOutcome};
 ghost use Rattle.coder.specs.Stages.{placeAt, recoverRun, recoverTested};
 
 fn place_at(i: usize) -> u16

@@ -1,7 +1,4 @@
 // Relation: the function with leading coefficient 1 that is zero at k dependent places.
-use crate::look::zero_at;
-use crate::work::ROOM;
-use crate::work::clear_room;
 use basics::Answer;
 use basics::Place;
 use basics::Refusal;
@@ -13,6 +10,9 @@ use engine::interpolate::run_pair;
 use engine::write::write_low;
 use field::logarithms;
 use field::powers;
+use solving::look::zero_at;
+use solving::work::ROOM;
+use solving::work::clear_room;
 ghost use mathlib.Core.Path.{_≡_};
 ghost use Prim.Native.Nat.{_≤_};
 ghost use lib.ListN.{length};
@@ -21,8 +21,9 @@ ghost use Rattle.basics.specs.declared.Answer.the-variants.{Done};
 ghost use Rattle.field.specs.Tables.{Tables};
 ghost use Rattle.codewords.specs.Code.{codeOf, codeAnswer};
 ghost use Rattle.engine.specs.Arrays.{Long};
-ghost use Rattle.coder.specs.Given.{Placed};
-ghost use Rattle.coder.specs.Outcomes.{room, relationOutcome};
+ghost use Rattle.solving.specs.Given.{Placed};
+ghost use Rattle.solving.specs.Tests.{room};
+ghost use Rattle.coder.specs.Outcomes.{relationOutcome};
 ghost use Rattle.coder.specs.Stages.{relationRun, relationPlaced, relationTested};
 
 // L of the first k − 1 places is the function if it is zero at the last. Two arrays are lent for the pair.

@@ -1,19 +1,20 @@
 // Systematic function: the function that agrees with a message at k places.
-use crate::prepare::prepare;
-use crate::work::ROOM;
-use crate::work::clear_room;
 use basics::Answer;
 use basics::Refusal;
 use code::test::test_code;
 use codewords::Parameters;
 use engine::write::write_function;
+use solving::prepare::prepare;
+use solving::work::ROOM;
+use solving::work::clear_room;
 ghost use mathlib.Core.Path.{_≡_};
 ghost use Prim.Native.Nat.{_≤_};
 ghost use lib.ListN.{length};
 ghost use Rattle.basics.specs.Outcome.{Meets};
 ghost use Rattle.basics.specs.declared.Answer.the-variants.{Done};
 ghost use Rattle.codewords.specs.Code.{codeOf, codeAnswer};
-ghost use Rattle.coder.specs.Outcomes.{room, systematicFunctionOutcome};
+ghost use Rattle.solving.specs.Tests.{room};
+ghost use Rattle.coder.specs.Outcomes.{systematicFunctionOutcome};
 ghost use Rattle.coder.specs.Stages.{functionRun, functionTested};
 
 // The tests from number 9 on, and then the result. An array is lent for the function.

@@ -36,9 +36,9 @@ use Rattle.codewords.proofs.Places.{symbols-true, all-at, n-points}
 use Rattle.engine.specs.Places.{pointOf, Within}
 use Rattle.engine.proofs.Runs.{point-at}
 use Rattle.values.specs.Values.{Shows}
-use Rattle.coder.specs.Given.{Placed, Works}
-use Rattle.coder.proofs.Link.{accepted, within, place-at, all-in, index-in, on-curve, pts, points-same, no-symbols, sizes, is-dependent}
-use Rattle.coder.proofs.Interpolant.{shown-word}
+use Rattle.solving.specs.Given.{Placed, Works}
+use Rattle.solving.proofs.Link.{accepted, within, place-at, all-in, index-in, on-curve, pts, points-same, no-symbols, sizes, is-dependent}
+use Rattle.solving.proofs.Interpolant.{shown-word}
 use Rattle.coder.proofs.Results.{unit-symbols, the-row}
 use Rattle.generator.specs.Rows.{Other, Chosen, Able, Rows, RowLists, indexAt, unitSymbols, rowValue, entryAt}
 use Rattle.generator.proofs.Adding.{entry-is}

@@ -4,7 +4,7 @@ use mathlib.Core.Path.{_≡_}
 use mathlib.Core.List.{List}
 use lib.ListN.{length}
 use Rattle.codewords.specs.Code.{Code}
-use Rattle.coder.specs.Given.{Works}
+use Rattle.solving.specs.Given.{Works}
 use Rattle.generator.specs.Rows.{RowLists, Chosen, Rows}
 
 -- the factors of all rows of a usable choice, and L and U by their values; rx and others are the lists that they were computed with

@@ -5,12 +5,12 @@ use basics::Refusal;
 use code::lists::all_different;
 use code::lists::all_places;
 use code::test::test_code;
-use coder::last_zero::last_zero;
-use coder::work::ROOM;
-use coder::work::clear_room;
 use codewords::Parameters;
 use field::logarithms;
 use field::powers;
+use solving::last_zero::last_zero;
+use solving::work::ROOM;
+use solving::work::clear_room;
 ghost use mathlib.Core.Path.{_≡_};
 ghost use Prim.Native.Nat.{_*_, _≤_};
 ghost use lib.ListN.{length};
@@ -18,8 +18,9 @@ ghost use Rattle.basics.specs.Outcome.{Meets};
 ghost use Rattle.basics.specs.declared.Answer.the-variants.{Done};
 ghost use Rattle.field.specs.Tables.{Tables};
 ghost use Rattle.codewords.specs.Code.{codeOf, codeAnswer};
-ghost use Rattle.coder.specs.Given.{Placed};
-ghost use Rattle.coder.specs.Outcomes.{room, matrixOutcome};
+ghost use Rattle.solving.specs.Given.{Placed};
+ghost use Rattle.solving.specs.Tests.{room};
+ghost use Rattle.coder.specs.Outcomes.{matrixOutcome};
 ghost use Rattle.coder.specs.Stages.{matrixRun, matrixPlaced, matrixTested};
 
 // Matrix of k different places.

@@ -11,7 +11,7 @@ ghost use lib.ListN.{length};
 ghost use Rattle.field.specs.Tables.{Tables};
 ghost use Rattle.codewords.specs.Code.{codeOf};
 ghost use Rattle.codewords.specs.Codewords.{matrix};
-ghost use Rattle.coder.specs.Given.{Works};
+ghost use Rattle.solving.specs.Given.{Works};
 ghost use Rattle.coder.specs.Outcomes.{joined};
 ghost use Rattle.matrix.specs.Given.{Factored};
 

@@ -29,7 +29,8 @@ use Rattle.codewords.specs.declared.Parameters.{Parameters}
 use Rattle.codewords.specs.Code.{Code, codeAnswer, checkCode, coefficientsBelow as codeBelow, smooth}
 use Rattle.codewords.specs.Codewords.{symbols, systematicFunction, systematicWord, usable}
 use Rattle.codewords.proofs.Accepted.{check-done, accepted-done}
-use Rattle.coder.specs.Outcomes.{systematicFunctionOutcome, systematicWordOutcome, cleared}
+use Rattle.solving.specs.Tests.{cleared}
+use Rattle.coder.specs.Outcomes.{systematicFunctionOutcome, systematicWordOutcome}
 use Rattle.sheet.specs.declared.sheet.Head.{Head}
 use Rattle.sheet.specs.Job.{outcomeOver}
 use Rattle.sheet.specs.Running.{Result, Solvable, Solves, Runs, overPoints, small}

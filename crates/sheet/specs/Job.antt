@@ -14,7 +14,7 @@ use Rattle.elliptic.specs.Curve.{affinePoints}
 use Rattle.curve.specs.Points.{room as most}
 use Rattle.codewords.specs.Code.{Code, checkCode}
 use Rattle.codewords.specs.Codewords.{systematicFunction, systematicWord, usable}
-use Rattle.coder.specs.Outcomes.{checkLength, checkPlaces, checkSymbols}
+use Rattle.solving.specs.Tests.{checkLength, checkPlaces, checkSymbols}
 use Rattle.sheet.specs.declared.sheet.Head.{Head}
 use Rattle.sheet.specs.Text.{answerKey, functionKey, wordKey, lineOf, fieldKey, curveKey, dimensionKey, placesKey, messageKey}
 use Rattle.sheet.specs.Reading.{Read, bad, got, Sheet, sheet}

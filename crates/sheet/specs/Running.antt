@@ -16,7 +16,7 @@ use Rattle.curve.specs.Points.{room as most}
 use Rattle.codewords.specs.declared.Parameters.{Parameters}
 use Rattle.codewords.specs.Code.{Code, codeOf, codeAnswer}
 use Rattle.codewords.specs.Codewords.{allPlaces, placesDiffer, symbols, systematicFunction, systematicWord, usable}
-use Rattle.coder.specs.Outcomes.{checkLength, checkPlaces, checkSymbols}
+use Rattle.solving.specs.Tests.{checkLength, checkPlaces, checkSymbols}
 use Rattle.sheet.specs.declared.sheet.Head.{Head}
 use Rattle.sheet.specs.Reading.{Sheet}
 use Rattle.sheet.specs.Job.{curveOf}

@@ -6,8 +6,8 @@ use Rattle.basics.proofs.Outcomes.{pass, refuse}
 use Rattle.codewords.specs.Code.{codeOf}
 use Rattle.codewords.specs.Codewords.{allPlaces, placesDiffer}
 use Rattle.codewords.proofs.Accepted.{accepted-done}
-use Rattle.coder.specs.Given.{Placed}
-use Rattle.coder.proofs.Link.{places-below}
+use Rattle.solving.specs.Given.{Placed}
+use Rattle.solving.proofs.Link.{places-below}
 use borrow.Author.Needs.{needs}
 use Rattle.coder.proofs.pick.pick_placed.Statement.{statement}
 use Rattle.coder.proofs.pick.pick_placed.Tie as tie

@@ -7,8 +7,8 @@ use native.Mathlib.Omega.{arith}
 use lib.ListN.{length, getD, take}
 use borrow.Author.Tests.{le-leb, lt-leb}
 use Rattle.basics.proofs.Outcomes.{pass, refuse, accept-pair}
-use Rattle.coder.proofs.Link.{accepted, no-symbols}
-use Rattle.coder.proofs.Free.{not-free, is-free, index-lt, picked}
+use Rattle.solving.proofs.Link.{accepted, no-symbols}
+use Rattle.solving.proofs.Free.{not-free, is-free, index-lt, picked}
 use borrow.Author.Needs.{needs}
 use Rattle.coder.proofs.pick.pick_run.Statement.{statement}
 use Rattle.coder.proofs.pick.pick_run.Tie as tie

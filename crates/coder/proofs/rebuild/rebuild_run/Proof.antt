@@ -6,10 +6,10 @@ use borrow.Author.Tests.{not-true, not-false}
 use Rattle.basics.specs.declared.Answer.the-variants.{Done}
 use Rattle.basics.proofs.Outcomes.{pass, refuse, accept-pair}
 use Rattle.codewords.specs.Code.{codeOf}
-use Rattle.coder.specs.Given.{solvedWord}
-use Rattle.coder.specs.Stages.{posedAnswer}
-use Rattle.coder.proofs.Chains.{posed-go, posed-stop, solvable, enough}
-use Rattle.coder.proofs.Link.{all-in}
+use Rattle.solving.specs.Given.{solvedWord}
+use Rattle.solving.specs.Tests.{posedAnswer}
+use Rattle.solving.proofs.Chains.{posed-go, posed-stop, solvable, enough}
+use Rattle.solving.proofs.Link.{all-in}
 use Rattle.coder.proofs.Results.{agreed-by, rebuilt, whole-word}
 use borrow.Author.Needs.{needs}
 use Rattle.coder.proofs.rebuild.rebuild_run.Statement.{statement}

@@ -4,7 +4,7 @@ use lib.Seq.{length-take-le}
 use borrow.Author.Tests.{eq-eqb, ne-eqb, le-leb, lt-leb}
 use Rattle.basics.proofs.Outcomes.{pass, refuse}
 use Rattle.codewords.proofs.Accepted.{accepted-done}
-use Rattle.coder.specs.Outcomes.{room}
+use Rattle.solving.specs.Tests.{room}
 use borrow.Author.Needs.{needs}
 use Rattle.coder.proofs.rebuild.rebuild_tested.Statement.{statement}
 use Rattle.coder.proofs.rebuild.rebuild_tested.Tie as tie

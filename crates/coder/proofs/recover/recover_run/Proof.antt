@@ -12,9 +12,9 @@ use Rattle.basics.proofs.Outcomes.{pass, refuse, accept-pair, meets-as}
 use Rattle.codewords.specs.Code.{codeOf}
 use Rattle.codewords.specs.Codewords.{codeword, recovered}
 use Rattle.codewords.specs.Computed.{solution}
-use Rattle.coder.specs.Outcomes.{cleared}
-use Rattle.coder.specs.Stages.{posedAnswer, checkPosed, recoverRun}
-use Rattle.coder.proofs.Chains.{posed-go, posed-stop, solvable}
+use Rattle.solving.specs.Tests.{cleared, checkPosed, posedAnswer}
+use Rattle.coder.specs.Stages.{recoverRun}
+use Rattle.solving.proofs.Chains.{posed-go, posed-stop, solvable}
 use Rattle.coder.proofs.Every.{every-length, every-posed, every-agrees, every-recovered}
 use borrow.Author.Needs.{needs}
 use Rattle.coder.proofs.recover.recover_run.Statement.{statement}

@@ -1,7 +1,7 @@
 -- Test after test of the lengths, and then of what the lists hold.
 use borrow.Author.Tests.{eq-eqb, ne-eqb, le-leb, lt-leb}
 use Rattle.basics.proofs.Outcomes.{pass, refuse}
-use Rattle.coder.specs.Outcomes.{room}
+use Rattle.solving.specs.Tests.{room}
 use borrow.Author.Needs.{needs}
 use Rattle.coder.proofs.recover.recover_tested.Statement.{statement}
 use Rattle.coder.proofs.recover.recover_tested.Tie as tie

@@ -13,7 +13,7 @@ use Rattle.codewords.specs.Code.{codeOf}
 use Rattle.codewords.specs.Codewords.{dependent}
 use Rattle.engine.specs.Arrays.{Room}
 use Rattle.engine.proofs.States.{room}
-use Rattle.coder.proofs.Link.{accepted, no-symbols, within, may-run, small, sizes, zero-last, is-dependent, relation-low}
+use Rattle.solving.proofs.Link.{accepted, no-symbols, within, may-run, small, sizes, zero-last, is-dependent, relation-low}
 use borrow.Author.Needs.{needs}
 use Rattle.coder.proofs.relation.relation_run.Statement.{statement}
 use Rattle.coder.proofs.relation.relation_run.Tie as tie

@@ -7,8 +7,8 @@ use Rattle.basics.specs.Lists.{Holds}
 use Rattle.basics.proofs.Outcomes.{accept-pair}
 use Rattle.codewords.specs.Code.{codeOf}
 use Rattle.codewords.specs.Computed.{solution}
-use Rattle.coder.specs.Stages.{posedAnswer}
-use Rattle.coder.proofs.Chains.{posed-go, posed-stop, enough}
+use Rattle.solving.specs.Tests.{posedAnswer}
+use Rattle.solving.proofs.Chains.{posed-go, posed-stop, enough}
 use Rattle.coder.proofs.Results.{the-function}
 use borrow.Author.Needs.{needs}
 use Rattle.coder.proofs.systematic_function.systematic_function_run.Statement.{statement}

@@ -1,8 +1,8 @@
 -- Test after test of the lengths, and then of what the lists hold.
 use borrow.Author.Tests.{eq-eqb, ne-eqb, le-leb, lt-leb}
 use Rattle.basics.proofs.Outcomes.{pass, refuse, meets-as}
-use Rattle.coder.specs.Outcomes.{room}
-use Rattle.coder.proofs.Chains.{posed-as}
+use Rattle.solving.specs.Tests.{room}
+use Rattle.solving.proofs.Chains.{posed-as}
 use borrow.Author.Needs.{needs}
 use Rattle.coder.proofs.systematic_function.systematic_function_tested.Statement.{statement}
 use Rattle.coder.proofs.systematic_function.systematic_function_tested.Tie as tie

@@ -5,9 +5,9 @@ use native.Mathlib.Omega.{arith}
 use Rattle.basics.specs.declared.Answer.the-variants.{Done}
 use Rattle.basics.proofs.Outcomes.{accept-pair}
 use Rattle.codewords.specs.Code.{codeOf}
-use Rattle.coder.specs.Given.{solvedWord}
-use Rattle.coder.specs.Stages.{posedAnswer}
-use Rattle.coder.proofs.Chains.{posed-go, posed-stop, enough}
+use Rattle.solving.specs.Given.{solvedWord}
+use Rattle.solving.specs.Tests.{posedAnswer}
+use Rattle.solving.proofs.Chains.{posed-go, posed-stop, enough}
 use Rattle.coder.proofs.Results.{the-word, whole-word}
 use borrow.Author.Needs.{needs}
 use Rattle.coder.proofs.systematic_word.systematic_word_run.Statement.{statement}

@@ -4,8 +4,8 @@ use lib.Seq.{length-take-le}
 use borrow.Author.Tests.{eq-eqb, ne-eqb, le-leb, lt-leb}
 use Rattle.basics.proofs.Outcomes.{pass, refuse, meets-as}
 use Rattle.codewords.proofs.Accepted.{accepted-done}
-use Rattle.coder.specs.Outcomes.{room}
-use Rattle.coder.proofs.Chains.{posed-as}
+use Rattle.solving.specs.Tests.{room}
+use Rattle.solving.proofs.Chains.{posed-as}
 use borrow.Author.Needs.{needs}
 use Rattle.coder.proofs.systematic_word.systematic_word_tested.Statement.{statement}
 use Rattle.coder.proofs.systematic_word.systematic_word_tested.Tie as tie

@@ -3,7 +3,7 @@ use mathlib.Core.Path.{_∙_, ap}
 use mathlib.Core.Bool.{not}
 use mathlib.Core.List.{[]}
 use Rattle.basics.proofs.Outcomes.{pass, refuse, accept-pair}
-use Rattle.coder.proofs.Link.{no-symbols, is-usable}
+use Rattle.solving.proofs.Link.{no-symbols, is-usable}
 use borrow.Author.Needs.{needs}
 use Rattle.matrix.proofs.operation.matrix_run.Statement.{statement}
 use Rattle.matrix.proofs.operation.matrix_run.Tie as tie

@@ -4,7 +4,7 @@ use lib.ListN.{length}
 use borrow.Author.Tests.{eq-eqb, ne-eqb, le-leb, lt-leb}
 use Rattle.basics.proofs.Outcomes.{pass, refuse}
 use Rattle.codewords.proofs.Accepted.{accepted-done}
-use Rattle.coder.specs.Outcomes.{room}
+use Rattle.solving.specs.Tests.{room}
 use Rattle.matrix.proofs.Joined.{rows-small}
 use borrow.Author.Needs.{needs}
 use Rattle.matrix.proofs.operation.matrix_tested.Statement.{statement}

@@ -12,7 +12,7 @@ use Rattle.basics.proofs.Lists.{table-as}
 use Rattle.codewords.specs.Code.{codeOf}
 use Rattle.codewords.specs.Codewords.{index, row, matrix}
 use Rattle.coder.specs.Outcomes.{joined}
-use Rattle.coder.proofs.Link.{accepted, index-in, within}
+use Rattle.solving.proofs.Link.{accepted, index-in, within}
 use Rattle.generator.specs.Rows.{entryAt, indexAt}
 use Rattle.matrix.proofs.Joined.{row-fits, row-length, rows-small, rows-more, rows-all}
 use Rattle.matrix.proofs.Theory.{the-entries}

@@ -2,7 +2,7 @@
 use mathlib.Core.List.{[]}
 use mathlib.Core.Path.{_∙_}
 use native.Mathlib.Omega.{arith}
-use Rattle.coder.proofs.Link.{accepted, code-coordinates, may-run, no-symbols}
+use Rattle.solving.proofs.Link.{accepted, code-coordinates, may-run, no-symbols}
 use Rattle.matrix.proofs.Theory.{may-choose, few, row-lists, able}
 use borrow.Author.Needs.{needs}
 use Rattle.matrix.proofs.write.rows_in.Statement.{statement}

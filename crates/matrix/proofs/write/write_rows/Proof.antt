@@ -2,7 +2,7 @@
 use mathlib.Core.Path.{sym}
 use native.Mathlib.Omega.{arith}
 use lib.Seq.{length-take-le}
-use Rattle.coder.proofs.Link.{accepted}
+use Rattle.solving.proofs.Link.{accepted}
 use borrow.Author.Needs.{needs}
 use Rattle.matrix.proofs.write.write_rows.Statement.{statement}
 use Rattle.matrix.proofs.write.write_rows.Tie as tie

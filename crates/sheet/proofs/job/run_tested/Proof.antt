@@ -9,7 +9,7 @@ use Rattle.code.specs.Lists.{isBelow}
 use Rattle.codewords.specs.Code.{codeOf}
 use Rattle.codewords.specs.Codewords.{allPlaces, placesDiffer, symbols}
 use Rattle.codewords.proofs.Accepted.{accepted-done}
-use Rattle.coder.proofs.Link.{places-below}
+use Rattle.solving.proofs.Link.{places-below}
 use Rattle.sheet.proofs.Stops.{passes, stops}
 use borrow.Author.Needs.{needs}
 use Rattle.sheet.proofs.job.run_tested.Statement.{statement}

@@ -1,0 +1,60 @@
+-- The coordinates are gathered, and the pair of their points is the pair of the places.
+use mathlib.Core.Path.{refl, sym, _∙_, ap}
+use native.Mathlib.Omega.{arith}
+use Rattle.basics.specs.Lists.{table}
+use Rattle.solving.specs.Given.{coordinateAt}
+use Rattle.solving.proofs.Link.{accepted, all-in}
+use Rattle.solving.proofs.Gathered.{gathered-coordinates, gathered-runs, gathered-zero}
+use borrow.Author.Needs.{needs}
+use Rattle.solving.proofs.last_zero.last_zero_in.Statement.{statement}
+use Rattle.solving.proofs.last_zero.last_zero_in.Tie as tie
+
+gather-requires : tie.Need-gather-requires
+gather-requires c κs = let s = c .before .before .before .before .before .before .before .before in (all-in (s .pre .1 .0 .0) (s .args .xs .now) refl, omega (arith, s .pre .1 .1 .0, s .pre .1 .0 .1))
+
+gather-requires-2 : tie.Need-gather-requires-2
+gather-requires-2 c κs = let s = c .before .before .before .before .before .before .before .before .before .before .before .before in (all-in (s .pre .1 .0 .0) (s .args .ys .now) (sym (accepted (s .pre .1 .0 .0) .lengths)), omega (arith, s .pre .1 .1 .1, s .pre .1 .0 .1))
+
+zero-at-last-requires : tie.Need-zero-at-last-requires
+zero-at-last-requires c κs =
+    let s = c .before .before .before .before .before .before .before .before .before .before .before .before .before .before .before .before .before .before .before in
+    let a = s .args in
+    let p = s .pre .1 .0 .0 in
+    let h = s .pre .1 .0 .1 in
+    let ex = c .before .before .before .before .before .before .before .before .before .before .gather .ensures ∙ ap (table (coordinateAt (a .xs .now) (a .places .now))) (s .pre .1 .1 .0) in
+    let ey = c .before .before .before .before .before .before .gather2 .ensures ∙ ap (table (coordinateAt (a .ys .now) (a .places .now))) (s .pre .1 .1 .1) in
+    let size = c .before .before .before .before .before .before .before .before .before .before .gather .kept .1 .1 .0 ∙ s .pre .1 .1 .0 in
+    (s .pre .0, ((gathered-coordinates p h ex ey, s .pre .1 .1 .2 ∙ sym size, s .pre .1 .1 .3 ∙ sym size), (gathered-runs p h ex ey, omega (arith, size, accepted p .k-least))))
+
+same-length : tie.Need-same-length
+same-length c = search needs
+
+same-length-2 : tie.Need-same-length-2
+same-length-2 c = search needs
+
+same-length-3 : tie.Need-same-length-3
+same-length-3 c = search needs
+
+same-length-4 : tie.Need-same-length-4
+same-length-4 c = search needs
+
+returns : tie.Need-returns
+returns c =
+    let s = c .before .before .before .before .before .before .before .before .before .before .before .before .before .before .before .before .before .before .before .before .before .before .before .before in
+    let a = s .args in
+    let ex = c .before .before .before .before .before .before .before .before .before .before .before .before .before .before .before .gather .ensures ∙ ap (table (coordinateAt (a .xs .now) (a .places .now))) (s .pre .1 .1 .0) in
+    let ey = c .before .before .before .before .before .before .before .before .before .before .before .gather2 .ensures ∙ ap (table (coordinateAt (a .ys .now) (a .places .now))) (s .pre .1 .1 .1) in
+    gathered-zero (s .pre .1 .0 .0) (s .pre .1 .0 .1) ex ey (c .before .before .before .before .zero-at-last .ensures)
+
+pub last-zero-in-spec : {M : Type 1} → statement M
+last-zero-in-spec =
+    tie.close
+    (tie.spec
+    gather-requires
+    gather-requires-2
+    zero-at-last-requires
+    same-length
+    same-length-2
+    same-length-3
+    same-length-4
+    returns)

@@ -1,0 +1,66 @@
+-- The tests of the lists, and then what is solved for.
+use mathlib.Core.Path.{_≡_, sym, _∙_}
+use mathlib.Core.Logic.{⊎-elim}
+use native.Mathlib.Omega.{arith}
+use borrow.Author.Tests.{not-true, not-false}
+use Rattle.basics.specs.declared.Answer.the-variants.{Done}
+use Rattle.codewords.specs.Code.{codeOf}
+use Rattle.codewords.proofs.Accepted.{accepted-done}
+use Rattle.solving.specs.Tests.{listsAnswer}
+use Rattle.solving.proofs.Chains.{posed, prepared-not, prepared-done, prepared-stop}
+use borrow.Author.Needs.{needs}
+use Rattle.solving.proofs.prepare.prepare.Statement.{statement}
+use Rattle.solving.proofs.prepare.prepare.Tie as tie
+
+test-lists-requires : tie.Need-test-lists-requires
+test-lists-requires c κs = c .before .before .before .before .before .pre .0
+
+enum-told : tie.Need-enum-told
+enum-told c = search needs
+
+-- the tests were passed
+passed : (c : tie.After-enum-told) → let a = c .before .before .before .before .before .before .before .before .args in listsAnswer (codeOf (a .p) (a .xs .now) (a .ys .now)) (a .places .now) (a .symbols .now) ≡ Done
+passed c = sym (c .before .before .test-lists .ensures) ∙ c .enum-told .given .1
+
+powers-requires : tie.Need-powers-requires
+powers-requires c κs = accepted-done _ (c .before .before .before .before .before .before .before .before .pre .0) .field
+
+logarithms-requires : tie.Need-logarithms-requires
+logarithms-requires c κs = accepted-done _ (c .before .before .before .before .before .before .before .before .before .before .pre .0) .field
+
+solve-requires : tie.Need-solve-requires
+solve-requires c κs =
+    let pre = c .before .before .before .before .before .before .before .before .before .before .before .before .before .pre in (
+      record { field = accepted-done _ (pre .0) .field; is-powers = c .before .before .before .before .powers .ensures; is-logs = c .before .before .logarithms .ensures },
+      (posed _ _ _ (passed (c .before .before .before .before .before)) (pre .0) (pre .1 .0), pre .1 .1),
+    )
+
+same-length : tie.Need-same-length
+same-length c = search needs
+
+returns : tie.Need-returns
+returns c = prepared-not _ _ _ (passed (c .before .before .before .before .before .before .before .before .before)) (c .before .before .before .solve .ensures) (not-true _ (c .if1 .taken))
+
+same-length-2 : tie.Need-same-length-2
+same-length-2 c = search needs
+
+returns-2 : tie.Need-returns-2
+returns-2 c = prepared-done _ _ _ (passed (c .before .before .before .before .before .before .before .before .before)) (c .before .before .before .solve .ensures) (not-false _ (c .if1 .left))
+
+returns-3 : tie.Need-returns-3
+returns-3 c = prepared-stop _ _ _ (c .before .test-lists .ensures) (λ d. ⊎-elim (λ e. omega (arith, e)) (λ e. omega (arith, e)) (rw d at (c .match .keys2)))
+
+pub prepare-spec : {M : Type 1} → statement M
+prepare-spec =
+    tie.close
+    (tie.spec
+    test-lists-requires
+    enum-told
+    powers-requires
+    logarithms-requires
+    solve-requires
+    same-length
+    returns
+    same-length-2
+    returns-2
+    returns-3)

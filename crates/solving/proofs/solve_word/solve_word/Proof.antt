@@ -1,0 +1,40 @@
+-- The parts of the arrays that are as long as the coordinates.
+use mathlib.Core.Path.{sym}
+use lib.Seq.{length-take-le}
+use Rattle.solving.proofs.Link.{accepted}
+use borrow.Author.Needs.{needs}
+use Rattle.solving.proofs.solve_word.solve_word.Statement.{statement}
+use Rattle.solving.proofs.solve_word.solve_word.Tie as tie
+
+array-borrow-prefix-l : tie.Need-array-borrow-prefix-l
+array-borrow-prefix-l c = accepted (c .before .before .before .before .before .pre .1 .0 .placed) .n-most
+
+slice-aggregate-solve-word-in : tie.Need-slice-aggregate-solve-word-in
+slice-aggregate-solve-word-in c = sym (length-take-le _ _ (accepted (c .before .before .before .before .before .before .pre .1 .0 .placed) .n-most))
+
+array-borrow-prefix-u : tie.Need-array-borrow-prefix-u
+array-borrow-prefix-u c = accepted (c .before .before .before .before .before .before .pre .1 .0 .placed) .n-most
+
+slice-aggregate-solve-word-in-2 : tie.Need-slice-aggregate-solve-word-in-2
+slice-aggregate-solve-word-in-2 c = sym (length-take-le _ _ (accepted (c .before .before .before .before .before .before .before .pre .1 .0 .placed) .n-most))
+
+solve-word-in-requires : tie.Need-solve-word-in-requires
+solve-word-in-requires c κs = let pre = c .before .before .before .before .before .before .before .before .pre in let most = accepted (pre .1 .0 .placed) .n-most in (pre .0, (pre .1 .0, length-take-le _ _ most, length-take-le _ _ most, pre .1 .1))
+
+same-length : tie.Need-same-length
+same-length c = search needs
+
+returns : tie.Need-returns
+returns c = search needs
+
+pub solve-word-spec : {M : Type 1} → statement M
+solve-word-spec =
+    tie.close
+    (tie.spec
+    array-borrow-prefix-l
+    slice-aggregate-solve-word-in
+    array-borrow-prefix-u
+    slice-aggregate-solve-word-in-2
+    solve-word-in-requires
+    same-length
+    returns)

@@ -1,0 +1,37 @@
+-- The tables of the field, and the engine's comparison at the points of the places.
+use mathlib.Core.Path.{sym, _∙_, ap}
+use mathlib.Core.List.{map}
+use native.Mathlib.Omega.{arith}
+use lib.ListN.{length, take}
+use lib.Seq.{length-take-le}
+use Rattle.basics.specs.Lists.{same}
+use Rattle.field.specs.Galois.{galois}
+use Rattle.elliptic.specs.Pair.{evaluate}
+use Rattle.solving.proofs.Link.{accepted, within, points-same}
+use Rattle.solving.proofs.words.agrees_all.Statement.{statement}
+use Rattle.solving.proofs.words.agrees_all.Tie as tie
+
+powers-requires : tie.Need-powers-requires
+powers-requires c κs = accepted (c .before .before .before .before .before .pre .0) .field
+
+logarithms-requires : tie.Need-logarithms-requires
+logarithms-requires c κs = accepted (c .before .before .before .before .before .before .before .pre .0) .field
+
+slice-aggregate-agrees : tie.Need-slice-aggregate-agrees
+slice-aggregate-agrees c = let s = c .before .before .before .before .before .before .before .before .before .before in sym (length-take-le (s .args .p .k) (s .args .f .now) (s .pre .1 .0))
+
+agrees-requires : tie.Need-agrees-requires
+agrees-requires c κs =
+    let s = c .before .before .before .before .before .before .before .before .before .before in (
+      record { field = accepted (s .pre .0) .field; is-powers = c .before .before .before .before .powers .ensures; is-logs = c .before .before .logarithms .ensures },
+      (within (s .pre .0) (length (s .args .places .now)) (omega arith), s .pre .1 .1),
+    )
+
+returns : tie.Need-returns
+returns c =
+    let s = c .before .before .before .before .before .before .before .before .before .before .before in
+    let a = s .args in
+    c .agrees .ensures ∙ ap (λ l. same (map (evaluate (galois (a .p .field)) (take (a .p .k) (a .f .now))) l) (a .symbols .now)) (points-same (s .pre .0))
+
+pub agrees-all-spec : {M : Type 1} → statement M
+agrees-all-spec = tie.close (tie.spec powers-requires logarithms-requires slice-aggregate-agrees agrees-requires returns)

@@ -1,0 +1,3 @@
+-- What operations over places test, and what they solve for.
+pub mod Tests
+pub mod Given

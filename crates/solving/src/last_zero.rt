@@ -1,0 +1,110 @@
+// Whether the first k places are dependent, by the values of L at them.
+use crate::solve_word::zero_in;
+use basics::Place;
+use codewords::Parameters;
+use values::run::index_of;
+use values::run::run_pair;
+ghost use mathlib.Core.Path.{_≡_};
+ghost use mathlib.Core.Bool.{true};
+ghost use mathlib.Core.List.{[]};
+ghost use Prim.Native.Nat.{_-_, _<_, _≤_};
+ghost use lib.Dec.{eqb};
+ghost use lib.ListN.{length};
+ghost use Rattle.basics.specs.Lists.{all, table};
+ghost use Rattle.field.specs.Galois.{galois};
+ghost use Rattle.field.specs.Tables.{Tables};
+ghost use Rattle.elliptic.specs.Pair.{after};
+ghost use Rattle.codewords.specs.Code.{codeOf};
+ghost use Rattle.codewords.specs.Computed.{lastZero, pointsOf};
+ghost use Rattle.code.specs.Lists.{isPlace};
+ghost use Rattle.engine.specs.Places.{valueAt};
+ghost use Rattle.values.specs.Values.{Coordinates, RunsFirst, pointsIn};
+ghost use Rattle.solving.specs.Given.{Placed, coordinateAt};
+
+// The coordinates of the first places, as many as `out` holds.
+fn gather(places: &[u16], from: &[u8], out: &mut [u8])
+    requires { ⌜ (all (isPlace (length (now from))) (now places) ≡ true) × (length (now out) ≤ length (now places)) ⌝ }
+    ensures { λ _. ⌜ now (out .exit) ≡ table (coordinateAt (now (from .entry)) (now (places .entry))) (length (now (out .entry))) ⌝ }
+{
+    let mut i = 0;
+    while i < out.len() {
+        let place = places[i];
+        out[i] = from[index_of(Place(place))];
+        i += 1;
+    }
+}
+
+// L of all points but the last is zero there. Two arrays are lent for the pair.
+fn zero_at_last(
+    m: u8,
+    powers: &[u8; 255],
+    logs: &[u8; 256],
+    xs: &[u8],
+    ys: &[u8],
+    l: &mut [u8],
+    u: &mut [u8],
+) -> bool
+    requires { ⌜ Tables m (now powers) (now logs) ⌝ }
+    requires { ⌜ Coordinates m (now xs) (now ys) × (length (now l) ≡ length (now xs)) × (length (now u) ≡ length (now xs)) ⌝ }
+    requires { ⌜ RunsFirst m (now xs) (now ys) (length (now xs) - 1) × (0 < length (now xs)) ⌝ }
+    ensures { λ r. ⌜ r ≡ eqb (valueAt m (now (xs .entry)) (now (ys .entry)) (after (galois m) (pointsIn (now (xs .entry)) (now (ys .entry))) [] (length (now (xs .entry)) - 1) .low) (length (now (xs .entry)) - 1)) 0 ⌝ }
+{
+    let last = xs.len() - 1;
+    let n = run_pair(m, powers, logs, xs, ys, last, l, u);
+    zero_in(last, l, u, n)
+}
+
+// L of the first k − 1 places is zero at the k-th. Arrays are lent for the coordinates and for the pair.
+fn last_zero_in(
+    p: Parameters,
+    powers: &[u8; 255],
+    logs: &[u8; 256],
+    xs: &[u8],
+    ys: &[u8],
+    places: &[u16],
+    gx: &mut [u8],
+    gy: &mut [u8],
+    l: &mut [u8],
+    u: &mut [u8],
+) -> bool
+    requires { ⌜ Tables (p .field) (now powers) (now logs) ⌝ }
+    requires { ⌜ Placed (codeOf p (now xs) (now ys)) (now places) × (p .k ≤ length (now places)) ⌝ }
+    requires { ⌜ (length (now gx) ≡ p .k) × (length (now gy) ≡ p .k) × (length (now l) ≡ p .k) × (length (now u) ≡ p .k) ⌝ }
+    ensures { λ r. ⌜ r ≡ lastZero (galois (p .field)) (p .k) (pointsOf (codeOf p (now (xs .entry)) (now (ys .entry))) (now (places .entry))) [] ⌝ }
+{
+    gather(places, xs, gx);
+    gather(places, ys, gy);
+    zero_at_last(p.field, powers, logs, gx, gy, l, u)
+}
+
+// The same with arrays of its own.
+pub fn last_zero(
+    p: Parameters,
+    powers: &[u8; 255],
+    logs: &[u8; 256],
+    xs: &[u8],
+    ys: &[u8],
+    places: &[u16],
+) -> bool
+    requires { ⌜ Tables (p .field) (now powers) (now logs) ⌝ }
+    requires { ⌜ Placed (codeOf p (now xs) (now ys)) (now places) × (p .k ≤ length (now places)) ⌝ }
+    ensures { λ r. ⌜ r ≡ lastZero (galois (p .field)) (p .k) (pointsOf (codeOf p (now (xs .entry)) (now (ys .entry))) (now (places .entry))) [] ⌝ }
+{
+    let k = p.k;
+    let mut gx = [0u8; 288];
+    let mut gy = [0u8; 288];
+    let mut l = [0u8; 288];
+    let mut u = [0u8; 288];
+    last_zero_in(
+        p,
+        powers,
+        logs,
+        xs,
+        ys,
+        places,
+        &mut gx[..k],
+        &mut gy[..k],
+        &mut l[..k],
+        &mut u[..k],
+    )
+}

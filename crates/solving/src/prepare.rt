@@ -1,0 +1,63 @@
+// What the operations with symbols have in common: the tests from number 9 to 12, and the function that is solved for.
+use crate::solve::solve;
+use basics::Answer;
+use basics::Refusal;
+use code::lists::all_below;
+use code::lists::all_different;
+use code::lists::all_places;
+use codewords::Parameters;
+use field::logarithms;
+use field::powers;
+use field::size;
+ghost use mathlib.Core.Path.{_≡_};
+ghost use Prim.Native.Nat.{_≤_};
+ghost use lib.ListN.{length};
+ghost use Rattle.basics.specs.declared.Answer.the-variants.{Done};
+ghost use Rattle.codewords.specs.Code.{codeOf, codeAnswer};
+ghost use Rattle.solving.specs.Given.{Prepared, HoldsFunction};
+ghost use Rattle.solving.specs.Tests.{listsAnswer};
+
+// The answer of the tests of places and symbols.
+pub fn test_lists(p: Parameters, xs: &[u8], ys: &[u8], places: &[u16], symbols: &[u8]) -> Answer
+    requires { ⌜ codeAnswer (codeOf p (now xs) (now ys)) ≡ Done ⌝ }
+    ensures { λ r. ⌜ r ≡ listsAnswer (codeOf p (now (xs .entry)) (now (ys .entry))) (now (places .entry)) (now (symbols .entry)) ⌝ }
+{
+    if !all_places(xs.len(), places) {
+        return Answer::Refused(Refusal::Place);
+    }
+    if !all_different(places) {
+        return Answer::Refused(Refusal::RepeatedPlace);
+    }
+    if !all_below(size(p.field), symbols) {
+        return Answer::Refused(Refusal::Symbol);
+    }
+    if places.len() < p.k {
+        return Answer::Refused(Refusal::TooFew);
+    }
+    Answer::Done
+}
+
+// The answer of these and of number 12; where it is Done, the function stands in f.
+pub fn prepare(
+    p: Parameters,
+    xs: &[u8],
+    ys: &[u8],
+    places: &[u16],
+    symbols: &[u8],
+    f: &mut [u8],
+) -> Answer
+    requires { ⌜ codeAnswer (codeOf p (now xs) (now ys)) ≡ Done ⌝ }
+    requires { ⌜ (length (now symbols) ≡ length (now places)) × (292 ≤ length (now f)) ⌝ }
+    ensures { λ r. ⌜ Prepared (codeOf p (now (xs .entry)) (now (ys .entry))) (now (places .entry)) (now (symbols .entry))
+        (HoldsFunction (codeOf p (now (xs .entry)) (now (ys .entry))) (now (places .entry)) (now (symbols .entry)) (now (f .exit))) r ⌝ }
+{
+    let tested = test_lists(p, xs, ys, places, symbols);
+    if let Answer::Done = tested {
+        let m = p.field;
+        if !solve(p, &powers(m), &logarithms(m), xs, ys, places, symbols, f) {
+            return Answer::Refused(Refusal::Dependent);
+        }
+        return Answer::Done;
+    }
+    tested
+}

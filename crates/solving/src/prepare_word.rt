@@ -1,0 +1,38 @@
+// What Systematic word and Rebuild have in common: the tests from number 9 to 12, and the values of the function that is solved for.
+use crate::prepare::test_lists;
+use crate::solve_word::solve_word;
+use basics::Answer;
+use basics::Refusal;
+use codewords::Parameters;
+use field::logarithms;
+use field::powers;
+ghost use mathlib.Core.Path.{_≡_};
+ghost use lib.ListN.{length};
+ghost use Rattle.basics.specs.declared.Answer.the-variants.{Done};
+ghost use Rattle.codewords.specs.Code.{codeOf, codeAnswer};
+ghost use Rattle.solving.specs.Given.{Prepared, solvedWord};
+
+// The answer of the tests; where it is Done, the values at all points stand in f.
+pub fn prepare_word(
+    p: Parameters,
+    xs: &[u8],
+    ys: &[u8],
+    places: &[u16],
+    symbols: &[u8],
+    f: &mut [u8],
+) -> Answer
+    requires { ⌜ codeAnswer (codeOf p (now xs) (now ys)) ≡ Done ⌝ }
+    requires { ⌜ (length (now symbols) ≡ length (now places)) × (length (now f) ≡ length (now xs)) ⌝ }
+    ensures { λ r. ⌜ Prepared (codeOf p (now (xs .entry)) (now (ys .entry))) (now (places .entry)) (now (symbols .entry))
+        (now (f .exit) ≡ solvedWord (codeOf p (now (xs .entry)) (now (ys .entry))) (now (places .entry)) (now (symbols .entry))) r ⌝ }
+{
+    let tested = test_lists(p, xs, ys, places, symbols);
+    if let Answer::Done = tested {
+        let m = p.field;
+        if !solve_word(p, &powers(m), &logarithms(m), xs, ys, places, symbols, f) {
+            return Answer::Refused(Refusal::Dependent);
+        }
+        return Answer::Done;
+    }
+    tested
+}
