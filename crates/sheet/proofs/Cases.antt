@@ -8,9 +8,10 @@ use Rattle.elliptic.specs.Curve.{onCurve, singularAt, singular, affinePoints}
 use Rattle.elliptic.specs.Functions.{nonzero, monomial, sumFrom, value}
 use Rattle.codewords.specs.Code.{pointsAt, coefficientsBelow, smooth, rightCount, allOnCurve, allDifferent, rightDimension}
 use Rattle.codewords.specs.Codewords.{extended, allLists, the, symbolAt, agrees, pointAt, allPlaces, placesDiffer, symbols, functions, word, codewords, agreeing, agreeingFunctions, systematicWord, systematicFunction, zeroOn, dependent, usable}
-use Rattle.sheet.specs.Text.{digits, following, joined, lineOf}
-use Rattle.sheet.specs.Reading.{then, before, isNext, stripped, more, number, numbers, line, exactly, header, lists, sheet}
-use Rattle.sheet.specs.Job.{codeFor, jobOutcome, outcomeOf, accepting, answerText, sheetText}
+use Rattle.text.specs.Text.{digits, following, joined, lineOf}
+use Rattle.text.specs.Reading.{then, before, isNext, stripped, more, number, numbers, line, exactly, header, lists, sheet}
+use Rattle.text.specs.Valid.{sheetText}
+use Rattle.sheet.specs.Job.{codeFor, jobOutcome, outcomeOf, accepting, answerText}
 use Rattle.sheet.specs.Cases.{caseSheet, caseAnswer, misshapen, caseJob, damaged, withPlaces, SheetCases}
 
 pub cases : SheetCases

@@ -31,7 +31,7 @@ use Rattle.codewords.specs.Codewords.{symbols, systematicFunction, systematicWo
 use Rattle.codewords.proofs.Accepted.{check-done, accepted-done}
 use Rattle.solving.specs.Tests.{cleared}
 use Rattle.coder.specs.Outcomes.{systematicFunctionOutcome, systematicWordOutcome}
-use Rattle.sheet.specs.declared.sheet.Head.{Head}
+use Rattle.text.specs.declared.sheet.Head.{Head}
 use Rattle.sheet.specs.Job.{outcomeOver}
 use Rattle.sheet.specs.Running.{Result, Solvable, Solves, Runs, overPoints, small}
 use Rattle.sheet.proofs.Stops.{stops-as, met-done, met-passed, met-stopped}

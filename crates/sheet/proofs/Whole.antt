@@ -12,10 +12,10 @@ use Rattle.basics.specs.declared.Answer.the-variants.{Counted, Refused}
 use Rattle.basics.specs.Outcome.{Outcome, refused}
 use Rattle.basics.proofs.Outcomes.{pass, refuse, count}
 use Rattle.basics.proofs.Loops.{appended-none}
-use Rattle.sheet.specs.Reading.{bad, got, Sheet, sheet}
+use Rattle.text.specs.Reading.{bad, got, Sheet, sheet}
 use Rattle.sheet.specs.Job.{accepting, answerText, answerTo, outcomeOf, jobOutcome, sheetOutcome, room, Answers}
 use Rattle.sheet.specs.Running.{Result, ran}
-use Rattle.sheet.specs.Stages.{Appends}
+use Rattle.text.specs.Stages.{Appends}
 
 -- the text of an outcome, by what was answered
 pub accepted-text : {o : Outcome Result} (k : ℕ) (f w : List ℕ) (n : ℕ) {r : Answer} → r ≡ Counted n → ran k f w r ≡ o → accepting (take k f) (take n w) ≡ answerText o

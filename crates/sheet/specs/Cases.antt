@@ -5,8 +5,9 @@ use mathlib.Core.Path.{_≡_}
 use mathlib.Core.List.{List, [], _∷_}
 use lib.ListN.{replicate}
 use Rattle.basics.specs.Lists.{all}
-use Rattle.sheet.specs.Reading.{Read, bad, got, Sheet, sheet}
-use Rattle.sheet.specs.Job.{answerTo, sheetText}
+use Rattle.text.specs.Reading.{Read, bad, got, Sheet, sheet}
+use Rattle.text.specs.Valid.{sheetText}
+use Rattle.sheet.specs.Job.{answerTo}
 
 -- "field=2", "curve=0,0,1,0,0", "dimension=5", "places=1,2,3,5,8", "message=1,0,0,0,0"
 unfoldable pub caseSheet : List ℕ

@@ -15,9 +15,9 @@ use Rattle.curve.specs.Points.{room as most}
 use Rattle.codewords.specs.Code.{Code, checkCode}
 use Rattle.codewords.specs.Codewords.{systematicFunction, systematicWord, usable}
 use Rattle.solving.specs.Tests.{checkLength, checkPlaces, checkSymbols}
-use Rattle.sheet.specs.declared.sheet.Head.{Head}
-use Rattle.sheet.specs.Text.{answerKey, functionKey, wordKey, lineOf, fieldKey, curveKey, dimensionKey, placesKey, messageKey}
-use Rattle.sheet.specs.Reading.{Read, bad, got, Sheet, sheet}
+use Rattle.text.specs.declared.sheet.Head.{Head}
+use Rattle.text.specs.Text.{answerKey, functionKey, wordKey, lineOf}
+use Rattle.text.specs.Reading.{Read, bad, got, Sheet, sheet}
 
 abbrev pub curveOf : Head → Curve
 curveOf h = record { g1 = h .g1; g2 = h .g2; g3 = h .g3; g4 = h .g4; g6 = h .g6 }
@@ -72,10 +72,3 @@ sheetOutcome s out = check (leb room (length out)) Length (counted (length (answ
 pub record Answers (s old : List ℕ) (r : Answer) (new : List ℕ) : Type 0 where
   pub meets : Meets (sheetOutcome s old) r old new
   pub few : counts r ≤ room
-
--- the sheet of a job, as a works office writes it
-unfoldable pub sheetText : Sheet → List ℕ
-sheetText job =
-    let h = job .head in
-    lineOf fieldKey (h .field ∷ []) ++ (lineOf curveKey (h .g1 ∷ h .g2 ∷ h .g3 ∷ h .g4 ∷ h .g6 ∷ [])
-    ++ (lineOf dimensionKey (h .k ∷ []) ++ (lineOf placesKey (job .places) ++ lineOf messageKey (job .message))))

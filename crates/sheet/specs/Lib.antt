@@ -1,8 +1,4 @@
--- The sheet language, what a sheet asks for, and the text of the answer.
-pub mod Text
-pub mod Reading
+-- What a sheet asks for, and the text of the answer.
 pub mod Job
-pub mod Valid
 pub mod Cases
-pub mod Stages
 pub mod Running

@@ -17,8 +17,8 @@ use Rattle.codewords.specs.declared.Parameters.{Parameters}
 use Rattle.codewords.specs.Code.{Code, codeOf, codeAnswer}
 use Rattle.codewords.specs.Codewords.{allPlaces, placesDiffer, symbols, systematicFunction, systematicWord, usable}
 use Rattle.solving.specs.Tests.{checkLength, checkPlaces, checkSymbols}
-use Rattle.sheet.specs.declared.sheet.Head.{Head}
-use Rattle.sheet.specs.Reading.{Sheet}
+use Rattle.text.specs.declared.sheet.Head.{Head}
+use Rattle.text.specs.Reading.{Sheet}
 use Rattle.sheet.specs.Job.{curveOf}
 
 -- a function of k coefficients and a word of n symbols

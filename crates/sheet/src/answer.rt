@@ -1,18 +1,18 @@
 // The answer to a sheet: read it, run its job, and write what comes of it.
 use crate::job::run;
-use crate::sheet::Head;
-use crate::sheet::Parsed;
-use crate::sheet::read_sheet;
 use crate::writing::write_accepted;
 use crate::writing::write_refusal;
 use basics::Answer;
 use basics::Refusal;
+use text::sheet::Head;
+use text::sheet::Parsed;
+use text::sheet::read_sheet;
 ghost use mathlib.Core.Path.{_≡_};
 ghost use Prim.Native.Nat.{_≤_};
 ghost use lib.ListN.{length};
 ghost use Rattle.sheet.specs.Job.{answerText, answerTo, jobOutcome, room, Answers};
 ghost use Rattle.sheet.specs.Running.{Rooms, jobOf};
-ghost use Rattle.sheet.specs.Stages.{Appends};
+ghost use Rattle.text.specs.Stages.{Appends};
 
 // No answer is longer.
 const ROOM: usize = 4096;

@@ -1,5 +1,4 @@
 // A job: the code of a sheet, and Systematic function and word over it.
-use crate::sheet::Head;
 use basics::Answer;
 use basics::Refusal;
 use code::lists::all_different;
@@ -12,6 +11,7 @@ use curve::points;
 use elliptic::Curve;
 use field::is_field;
 use field::size;
+use text::sheet::Head;
 ghost use mathlib.Core.Path.{_≡_};
 ghost use mathlib.Core.Bool.{true};
 ghost use mathlib.Core.List.{map};

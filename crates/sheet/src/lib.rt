@@ -1,6 +1,4 @@
 // The job sheet: a text in, the text of the answer out.
 pub mod answer;
 pub mod job;
-pub mod reading;
-pub mod sheet;
 pub mod writing;

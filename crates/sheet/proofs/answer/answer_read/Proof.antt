@@ -5,7 +5,7 @@ use native.Mathlib.Omega.{arith}
 use lib.ListN.{length}
 use lib.Seq.{length-take-le}
 use Rattle.basics.specs.declared.Refusal.the-variants.{SheetShape}
-use Rattle.sheet.specs.Stages.{sheetIn}
+use Rattle.text.specs.Stages.{sheetIn}
 use Rattle.sheet.proofs.Answers.{refusal-few}
 use Rattle.sheet.proofs.Whole.{read-text, bad-text, appends-as}
 use borrow.Author.Needs.{needs}

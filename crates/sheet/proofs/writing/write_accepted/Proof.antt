@@ -1,9 +1,9 @@
 -- Three lines, one after the other.
 use mathlib.Core.List.{[], _∷_, _++_}
 use native.Mathlib.Omega.{arith}
-use Rattle.sheet.specs.Text.{answerKey, functionKey, wordKey, lineOf}
+use Rattle.text.specs.Text.{answerKey, functionKey, wordKey, lineOf}
 use Rattle.sheet.specs.Job.{accepting}
-use Rattle.sheet.proofs.Appending.{Leads, leads-start, leads-room, leads-on}
+use Rattle.text.proofs.Appending.{Leads, leads-start, leads-room, leads-on}
 use Rattle.sheet.proofs.Answers.{accepting-few}
 use borrow.Author.Needs.{needs}
 use Rattle.sheet.proofs.writing.write_accepted.Statement.{statement}

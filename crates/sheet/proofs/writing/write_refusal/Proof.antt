@@ -1,9 +1,9 @@
 -- One line.
 use mathlib.Core.List.{[], _∷_}
 use native.Mathlib.Omega.{arith}
-use Rattle.sheet.specs.Text.{answerKey}
+use Rattle.text.specs.Text.{answerKey}
 use Rattle.sheet.specs.Job.{answerText}
-use Rattle.sheet.proofs.Appending.{line-few}
+use Rattle.text.proofs.Appending.{line-few}
 use borrow.Author.Needs.{needs}
 use Rattle.sheet.proofs.writing.write_refusal.Statement.{statement}
 use Rattle.sheet.proofs.writing.write_refusal.Tie as tie
