@@ -3,7 +3,7 @@ use basics::Answer;
 use basics::Refusal;
 use code::test::test_code;
 use codewords::Parameters;
-use engine::write::write_function;
+use interpolation::write::write_function;
 use solving::prepare::prepare;
 use solving::work::ROOM;
 use solving::work::clear_room;

@@ -1,5 +1,4 @@
-// The engine: interpolation on a curve place by place, over arrays of coefficients in weight order.
-pub mod interpolate;
+// The engine: the pair of functions and the interpolant, one place further, over arrays of coefficients in weight order.
 pub mod pair;
+pub mod places;
 pub mod slices;
-pub mod write;

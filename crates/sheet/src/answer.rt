@@ -7,7 +7,6 @@ use basics::Refusal;
 use text::sheet::Head;
 use text::sheet::Parsed;
 use text::sheet::read_sheet;
-ghost use mathlib.Core.Path.{_≡_};
 ghost use Prim.Native.Nat.{_≤_};
 ghost use lib.ListN.{length};
 ghost use Rattle.sheet.specs.Job.{answerText, answerTo, jobOutcome, room, Answers};

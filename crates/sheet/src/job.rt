@@ -14,14 +14,13 @@ use field::size;
 use text::sheet::Head;
 ghost use mathlib.Core.Path.{_≡_};
 ghost use mathlib.Core.Bool.{true};
-ghost use mathlib.Core.List.{map};
 ghost use Prim.Native.Nat.{_≤_, _<_};
 ghost use lib.ListN.{length};
 ghost use Rattle.basics.specs.declared.Answer.the-variants.{Done};
 ghost use Rattle.basics.specs.Lists.{all};
 ghost use Rattle.code.specs.Lists.{isBelow};
 ghost use Rattle.codewords.specs.Code.{codeOf, codeAnswer};
-ghost use Rattle.sheet.specs.Job.{jobOutcome, curveOf, outcomeOver};
+ghost use Rattle.sheet.specs.Job.{jobOutcome, outcomeOver};
 ghost use Rattle.sheet.specs.Running.{Runs, Solves, Rooms, Solvable, overPoints, afterCode, solving, small, parametersOf, jobOf};
 
 fn wide(x: u16) -> usize

@@ -1,8 +1,8 @@
 // Where L is zero: at the last of k places, these are dependent.
 use basics::Place;
-use engine::interpolate::low_at;
-use engine::interpolate::point_at;
 use engine::pair::Sizes;
+use engine::places::point_at;
+use interpolation::interpolate::low_at;
 ghost use mathlib.Core.Path.{_≡_};
 ghost use mathlib.Core.Bool.{cond};
 ghost use Prim.Native.Nat.{_-_, _≤_};

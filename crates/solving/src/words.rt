@@ -1,9 +1,9 @@
 // Whether what was solved for has the symbols at the places: a function, and the word of its values.
 use basics::Place;
 use codewords::Parameters;
-use engine::write::agrees;
 use field::logarithms;
 use field::powers;
+use interpolation::write::agrees;
 use values::run::index_of;
 ghost use mathlib.Core.Path.{_≡_};
 ghost use mathlib.Core.Bool.{true};

@@ -4,10 +4,10 @@ use Prim.Native.Nat.{_≤_, _-_}
 use native.Mathlib.Omega.{arith}
 use lib.ListN.{length, getD, length-set}
 use Rattle.basics.proofs.Loops.{filled, filled-turn, filled-front}
 use Rattle.engine.proofs.Laws.{table-take}
 use borrow.Author.Needs.{needs}
-use Rattle.engine.proofs.write.copy.Statement.{statement}
-use Rattle.engine.proofs.write.copy.Tie as tie
+use Rattle.interpolation.proofs.write.copy.Statement.{statement}
+use Rattle.interpolation.proofs.write.copy.Tie as tie
 
 abbrev Inv-loop : tie.InvT-loop
 Inv-loop f n out₀ i₀ out i = (i ≤ n) × (length out ≡ length out₀) × (out ≡ filled (λ k. getD f k 0) out₀ i)

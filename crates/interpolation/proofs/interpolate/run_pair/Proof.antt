@@ -7,13 +7,13 @@ use mathlib.Core.List.{[]}
 use lib.ListN.{length}
 use Rattle.field.specs.Galois.{galois}
 use Rattle.elliptic.specs.Pair.{after}
 use Rattle.engine.specs.Arrays.{Pair, Long}
 use Rattle.engine.specs.Places.{pointsOf}
 use Rattle.engine.proofs.States.{begins, room}
 use Rattle.engine.proofs.Runs.{run-pair-more}
 use borrow.Author.Needs.{needs}
-use Rattle.engine.proofs.interpolate.run_pair.Statement.{statement}
-use Rattle.engine.proofs.interpolate.run_pair.Tie as tie
+use Rattle.interpolation.proofs.interpolate.run_pair.Statement.{statement}
+use Rattle.interpolation.proofs.interpolate.run_pair.Tie as tie
 
 abbrev Inv-loop : tie.InvT-loop
 Inv-loop m powers logs xs ys places count l₀ u₀ n₀ i₀ l u n i = (length l ≡ length l₀) × (length u ≡ length u₀) × (i ≤ count) × Pair l u n (after (galois m) (pointsOf xs ys places) [] i)

@@ -3,8 +3,8 @@ use mathlib.Core.Path.{sym}
 use native.Mathlib.Omega.{arith}
 use lib.Seq.{length-take-le}
 use borrow.Author.Needs.{needs}
-use Rattle.engine.proofs.interpolate.finish.Statement.{statement}
-use Rattle.engine.proofs.interpolate.finish.Tie as tie
+use Rattle.interpolation.proofs.interpolate.finish.Statement.{statement}
+use Rattle.interpolation.proofs.interpolate.finish.Tie as tie
 
 slice-aggregate-complete : tie.Need-slice-aggregate-complete
 slice-aggregate-complete c = sym (length-take-le _ _ (omega arith))

@@ -8,11 +8,11 @@ use Rattle.basics.specs.Lists.{same}
 use Rattle.basics.proofs.Loops.{same-fails, same-passes, same-ends}
 use Rattle.field.specs.Galois.{galois}
 use Rattle.elliptic.specs.Pair.{evaluate}
 use Rattle.engine.specs.Places.{pointsOf}
 use Rattle.engine.proofs.Runs.{value-at, values-length}
 use borrow.Author.Needs.{needs}
-use Rattle.engine.proofs.write.agrees.Statement.{statement}
-use Rattle.engine.proofs.write.agrees.Tie as tie
+use Rattle.interpolation.proofs.write.agrees.Statement.{statement}
+use Rattle.interpolation.proofs.write.agrees.Tie as tie
 
 abbrev Inv-loop : tie.InvT-loop
 Inv-loop m powers logs xs ys places symbols f i₀ i =

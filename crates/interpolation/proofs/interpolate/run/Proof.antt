@@ -7,13 +7,13 @@ use native.Mathlib.Numerals.{add-one-le}
 use lib.ListN.{length}
 use Rattle.field.specs.Galois.{galois}
 use Rattle.elliptic.specs.Pair.{after}
 use Rattle.engine.specs.Arrays.{Filled, Long}
 use Rattle.engine.specs.Places.{pointsOf}
 use Rattle.engine.proofs.States.{begins, room, word-room}
 use Rattle.engine.proofs.Runs.{run-more}
 use borrow.Author.Needs.{needs}
-use Rattle.engine.proofs.interpolate.run.Statement.{statement}
-use Rattle.engine.proofs.interpolate.run.Tie as tie
+use Rattle.interpolation.proofs.interpolate.run.Statement.{statement}
+use Rattle.interpolation.proofs.interpolate.run.Tie as tie
 
 abbrev Inv-loop : tie.InvT-loop
 Inv-loop m powers logs xs ys places symbols count l₀ u₀ f₀ n₀ i₀ l u f n i =

@@ -1,9 +1,9 @@
 // What the operations write: the coefficients of a function, and its values.
-use crate::interpolate::point_at;
-use crate::pair::Sizes;
-use crate::pair::extend;
-use crate::slices::value;
 use basics::Place;
+use engine::pair::Sizes;
+use engine::pair::extend;
+use engine::places::point_at;
+use engine::slices::value;
 ghost use mathlib.Core.Path.{_≡_};
 ghost use mathlib.Core.Bool.{cond};
 ghost use mathlib.Core.List.{map};

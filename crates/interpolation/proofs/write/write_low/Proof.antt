@@ -1,7 +1,7 @@
 -- L is read where it stands.
 use borrow.Author.Needs.{needs}
-use Rattle.engine.proofs.write.write_low.Statement.{statement}
-use Rattle.engine.proofs.write.write_low.Tie as tie
+use Rattle.interpolation.proofs.write.write_low.Statement.{statement}
+use Rattle.interpolation.proofs.write.write_low.Tie as tie
 
 write-function-requires : tie.Need-write-function-requires
 write-function-requires c κs = search needs

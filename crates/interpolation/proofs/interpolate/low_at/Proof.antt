@@ -3,8 +3,8 @@ use mathlib.Core.Path.{sym}
 use native.Mathlib.Omega.{arith}
 use lib.Seq.{length-take-le}
 use borrow.Author.Needs.{needs}
-use Rattle.engine.proofs.interpolate.low_at.Statement.{statement}
-use Rattle.engine.proofs.interpolate.low_at.Tie as tie
+use Rattle.interpolation.proofs.interpolate.low_at.Statement.{statement}
+use Rattle.interpolation.proofs.interpolate.low_at.Tie as tie
 
 slice-aggregate-value : tie.Need-slice-aggregate-value
 slice-aggregate-value c = sym (length-take-le _ _ (omega arith))

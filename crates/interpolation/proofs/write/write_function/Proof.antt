@@ -1,9 +1,9 @@
 -- The coefficients are copied, and zeros put behind them.
 use native.Mathlib.Omega.{arith}
 use Rattle.engine.proofs.Laws.{padded-as}
 use borrow.Author.Needs.{needs}
-use Rattle.engine.proofs.write.write_function.Statement.{statement}
-use Rattle.engine.proofs.write.write_function.Tie as tie
+use Rattle.interpolation.proofs.write.write_function.Statement.{statement}
+use Rattle.interpolation.proofs.write.write_function.Tie as tie
 
 copy-requires : tie.Need-copy-requires
 copy-requires c κs = search needs

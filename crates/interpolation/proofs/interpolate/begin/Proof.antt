@@ -1,10 +1,10 @@
 -- Four stores.
 use native.Mathlib.Omega.{arith}
 use lib.ListN.{length-set}
 use Rattle.engine.proofs.States.{begun}
 use borrow.Author.Needs.{needs}
-use Rattle.engine.proofs.interpolate.begin.Statement.{statement}
-use Rattle.engine.proofs.interpolate.begin.Tie as tie
+use Rattle.interpolation.proofs.interpolate.begin.Statement.{statement}
+use Rattle.interpolation.proofs.interpolate.begin.Tie as tie
 
 slice-write-l : tie.Need-slice-write-l
 slice-write-l c = search needs

@@ -1,12 +1,13 @@
 // The pair and the interpolant of the first places of a list.
-use crate::pair::Lengths;
-use crate::pair::Sizes;
-use crate::pair::complete;
-use crate::pair::pair_turn;
-use crate::pair::turn;
-use crate::slices::value;
 use basics::Place;
 use elliptic::Point;
+use engine::pair::Lengths;
+use engine::pair::Sizes;
+use engine::pair::complete;
+use engine::pair::pair_turn;
+use engine::pair::turn;
+use engine::places::point_at;
+use engine::slices::value;
 ghost use mathlib.Core.Path.{_≡_};
 ghost use mathlib.Core.List.{[]};
 ghost use mathlib.Core.Bool.{cond};
@@ -16,17 +17,8 @@ ghost use Rattle.basics.specs.Lists.{Holds};
 ghost use Rattle.field.specs.Galois.{galois};
 ghost use Rattle.field.specs.Tables.{Tables};
 ghost use Rattle.elliptic.specs.Pair.{evaluate, corrected, start, after};
 ghost use Rattle.engine.specs.Arrays.{Pair, Filled, Long, Room, WordRoom};
-ghost use Rattle.engine.specs.Places.{pointOf, pointsOf, IsPlace, Runs};
-
-// The point at a place.
-pub fn point_at(xs: &[u8], ys: &[u8], place: Place) -> Point
-    requires { ⌜ IsPlace (now xs) (now ys) (place .0) ⌝ }
-    ensures { λ r. ⌜ r ≡ pointOf (now (xs .entry)) (now (ys .entry)) (place .0) ⌝ }
-{
-    let i = place.0 as usize - 1;
-    Point { x: xs[i], y: ys[i] }
-}
+ghost use Rattle.engine.specs.Places.{pointsOf, Runs};
 
 // L = 1 in l, and U = Y in u.
 fn begin(l: &mut [u8], u: &mut [u8])

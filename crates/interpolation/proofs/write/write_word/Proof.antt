@@ -5,10 +5,10 @@ use native.Mathlib.Omega.{arith}
 use lib.ListN.{length, length-set}
 use Rattle.basics.specs.Lists.{table}
 use Rattle.basics.proofs.Loops.{filled, filled-turn, filled-all}
 use Rattle.engine.specs.Places.{valueAt}
 use borrow.Author.Needs.{needs}
-use Rattle.engine.proofs.write.write_word.Statement.{statement}
-use Rattle.engine.proofs.write.write_word.Tie as tie
+use Rattle.interpolation.proofs.write.write_word.Statement.{statement}
+use Rattle.interpolation.proofs.write.write_word.Tie as tie
 
 abbrev Inv-loop : tie.InvT-loop
 Inv-loop m powers logs xs ys f out₀ i₀ out i = (i ≤ length out₀) × (length out ≡ length out₀) × (out ≡ filled (valueAt m xs ys f) out₀ i)

@@ -1,7 +1,7 @@
 -- The coordinates stand at the index one below the place.
 use borrow.Author.Needs.{needs}
-use Rattle.engine.proofs.interpolate.point_at.Statement.{statement}
-use Rattle.engine.proofs.interpolate.point_at.Tie as tie
+use Rattle.engine.proofs.places.point_at.Statement.{statement}
+use Rattle.engine.proofs.places.point_at.Tie as tie
 
 cast-i : tie.Need-cast-i
 cast-i c = search needs
