@@ -1,117 +1,77 @@
--- A row stays a row when a place is added: it loses the multiple of the raised function that it had there. Plain algebra at each point.
-use Prim.Native.Nat.{ℕ, _<_}
-use mathlib.Core.Path.{_≡_, sym, _∙_, ap, ap₂}
+-- A row stays a row when a point is added: it loses the multiple of the raised function that it had there. Plain algebra at each point.
+use Prim.Native.Nat.{ℕ, _+_, _<_, _≤_}
+use mathlib.Core.Path.{_≡_, refl, sym, _∙_, ap, ap₂}
 use mathlib.Core.Bool.{cond}
 use mathlib.Core.List.{List}
 use native.Mathlib.Decide.{ℕ-discrete}
 use native.Mathlib.Omega.{arith}
 use borrow.Author.Tests.{eq-eqb, ne-eqb}
-use lib.Dec.{eqb}
 use lib.ListN.{length, getD}
 use Rattle.field.specs.Sum.{_⊕_}
 use Rattle.field.proofs.Sum.{⊕-eq}
 use Rattle.field.specs.Field.{Arithmetic, Field}
-use Rattle.field.proofs.Field.{ring, mul-one, zero-lt}
+use Rattle.field.proofs.Field.{ring, zero-lt}
 use Rattle.field.specs.Galois.{IsField, galois, product, inverse, size}
 use Rattle.field.proofs.Galois.{galois-field}
 use Rattle.values.specs.Values.{Passes}
-use Rattle.generator.specs.Rows.{Row, RowIn, RowsRaised, RowsEither, RowsStep, factor, gained, factorAt, raisedOf, entryAt}
+use Rattle.generator.specs.Rows.{Row, RowIn, RowsRaised, RowsEither, RowsStep, Ready, total, gained, raisedOf, quotientAt, entryAt}
+use Rattle.generator.proofs.Sums.{over, total-times, part-away, left-over}
 
 module _ {F : Arithmetic} (K : Field F) where
   infixl 70 _·_
   open Arithmetic F using (q, _·_, inv)
-  open Field K using (add-lt, mul-lt, mul-inv, inv-lt)
-
-  -- a = (a·b)/b
-  over : (a b : ℕ) → a < q → b < q → (b ≡ 0 → ⊥) → a · b · inv b ≡ a
-  over a b ha hb n = swap a b (inv b) ∙ ap (λ t. a · t) (mul-inv b hb n) ∙ mul-one K a ha
-    where
-      swap : (x y z : ℕ) → x · y · z ≡ x · (y · z)
-      swap x y z = simp ring
-
-  -- v = n/d where d·v = n
-  divided : (d v n : ℕ) → d < q → v < q → (d ≡ 0 → ⊥) → d · v ≡ n → v ≡ n · inv d
-  divided d v n hd hv z e = sym (over v d hv hd z) ∙ ap (λ t. t · inv d) (swap v d ∙ e)
-    where
-      swap : (x y : ℕ) → x · y ≡ y · x
-      swap x y = simp ring
-
-  -- ---- one more place
+  open Field K using (mul-lt, inv-lt, one-mul)
 
   -- the two sides differ by a multiple of what is zero
-  step-sides : (X x α a b t e r s : ℕ) → a · r ⊕ b · s ⊕ (X ⊕ x) · (e · r) ⊕ (e · ((X ⊕ α) · r) ⊕ b · (s ⊕ t · r)) ≡ (a ⊕ b · t ⊕ (x ⊕ α) · e) · r
+  step-sides : (X x α a b t e r s : ℕ) → a · r ⊕ b · s ⊕ (X ⊕ x) · (e · r) ⊕ (e · ((X ⊕ α) · r) ⊕ b · (s ⊕ t · r)) ≡ ((α ⊕ x) · e ⊕ (a ⊕ t · b)) · r
   step-sides X x α a b t e r s = simp ring
 
   spread : (X f e r : ℕ) → X · (f ⊕ e · r) ≡ X · f ⊕ X · (e · r)
   spread X f e r = simp ring
 
-  factored : (a b r s i : ℕ) → a · r · i ⊕ b · (s · i) ≡ (a · r ⊕ b · s) · i
+  factored : (a b r s i : ℕ) → a · r · i ⊕ s · i · b ≡ (a · r ⊕ b · s) · i
   factored a b r s i = simp ring
 
   associated : (x f i : ℕ) → x · f · i ≡ x · (f · i)
   associated x f i = simp ring
 
-  commuted : (x α e : ℕ) → (α ⊕ x) · e ≡ (x ⊕ α) · e
-  commuted x α e = simp ring
+  vanish : (y z : ℕ) → (y ⊕ y) · z ≡ 0
+  vanish y z = simp ring
 
-  none : (r : ℕ) → 0 · r ≡ 0
-  none r = simp ring
-
-  module _ {xs r s : List ℕ} {x a b o h c : ℕ} {f : ℕ → ℕ} (w : Row F xs r s x a b o h f) (inside : c < length xs) (r-lt : getD r c 0 < q) (s-lt : getD s c 0 < q)
-      (some : getD r c 0 ≡ 0 → ⊥) where
-    abbrev α : ℕ
-    α = getD xs c 0
-
-    abbrev rc : ℕ
-    rc = getD r c 0
-
-    abbrev e : ℕ
-    e = f c · inv rc
-
-    -- what the coefficients say at the place itself
-    pub balance : a ⊕ b · (getD s c 0 · inv rc) ≡ (x ⊕ α) · e
+  module _ {xs r s : List ℕ} {x a b i : ℕ} {f : ℕ → ℕ} (w : Row F xs r s i x a b f) (inside : i < length xs) (r-lt : getD r i 0 < q) (some : getD r i 0 ≡ 0 → ⊥) where
+    -- what the factors say at the point itself
+    pub balance : (getD xs i 0 ⊕ x) · (f i · inv (getD r i 0)) ≡ a ⊕ getD s i 0 · inv (getD r i 0) · b
     balance =
-        ap (λ t. t ⊕ b · (getD s c 0 · inv rc)) (sym (over a rc (w .first-lt) r-lt some)) ∙ factored a b rc (getD s c 0) (inv rc)
-        ∙ ap (λ t. t · inv rc) (sym (w .at c inside)) ∙ associated (α ⊕ x) (f c) (inv rc) ∙ commuted x α e
+        let rc = getD r i 0 in
+        sym (ap (λ y. y ⊕ getD s i 0 · inv rc · b) (sym (over K a rc (w .first-lt) r-lt some)) ∙ factored a b rc (getD s i 0) (inv rc)
+        ∙ ap (λ y. y · inv rc) (sym (w .at i (omega arith) inside)) ∙ associated (getD xs i 0 ⊕ x) (f i) (inv rc))
 
-    -- the value at the place as it is computed
-    pub factor-is : α < q → x < q → f c < q → (x ≡ α → o ≡ c) → factor F α x rc (getD s c 0) a b h ≡ e
-    factor-is α-lt x-lt f-lt at = by (ℕ-discrete x α)
-      where
-        by : Dec (x ≡ α) → factor F α x rc (getD s c 0) a b h ≡ e
-        by (yes g) =
-            ap (λ t. cond t h ((a · rc ⊕ b · getD s c 0) · inv (α ⊕ x)) · inv rc) (eq-eqb x α g) ∙ ap (λ t. t · inv rc) (w .other ∙ ap f (at g))
-        by (no g) =
-            ap (λ t. cond t h ((a · rc ⊕ b · getD s c 0) · inv (α ⊕ x)) · inv rc) (ne-eqb x α g)
-            ∙ (ap (λ t. t · inv rc) (sym (divided (α ⊕ x) (f c) (a · rc ⊕ b · getD s c 0) (add-lt _ _ α-lt x-lt) f-lt (λ z. g (sym (⊕-eq z))) (w .at c inside))))
-
-    pub row-step : {r′ s′ : List ℕ} {h′ : ℕ} → ((i : ℕ) → i < length xs → getD r′ i 0 ≡ (getD xs i 0 ⊕ α) · getD r i 0)
-        → ((i : ℕ) → i < length xs → getD s′ i 0 ≡ getD s i 0 ⊕ getD s c 0 · inv rc · getD r i 0) → h′ ≡ h ⊕ e · getD r o 0
-        → Row F xs r′ s′ x e b o h′ (gained F c r f)
-    row-step {r′} {s′} p g k =
-        record {
-          at = λ i m. ⊕-eq
-              (ap₂ (λ y z. (getD xs i 0 ⊕ x) · gained F c r f i ⊕ (e · y ⊕ b · z)) (p i m) (g i m)
-              ∙ ap (λ y. y ⊕ (e · ((getD xs i 0 ⊕ α) · getD r i 0) ⊕ b · (getD s i 0 ⊕ getD s c 0 · inv rc · getD r i 0)))
-              (spread (getD xs i 0 ⊕ x) (f i) e (getD r i 0) ∙ ap (λ y. y ⊕ (getD xs i 0 ⊕ x) · (e · getD r i 0)) (w .at i m))
-              ∙ step-sides (getD xs i 0) x α a b (getD s c 0 · inv rc) e (getD r i 0) (getD s i 0)
-              ∙ ap (λ y. (y ⊕ (x ⊕ α) · e) · getD r i 0) balance ∙ vanish ((x ⊕ α) · e) (getD r i 0));
-          other = k ∙ ap (λ y. y ⊕ e · getD r o 0) (w .other);
+    pub row-step : {r′ s′ : List ℕ} {a′ b′ : ℕ} → a′ ≡ f i · inv (getD r i 0) → b′ ≡ b
+        → ((t : ℕ) → i + 1 ≤ t → t < length xs → getD r′ t 0 ≡ (getD xs t 0 ⊕ getD xs i 0) · getD r t 0)
+        → ((t : ℕ) → i + 1 ≤ t → t < length xs → getD s′ t 0 ≡ getD s t 0 ⊕ getD s i 0 · inv (getD r i 0) · getD r t 0)
+        → Row F xs r′ s′ (i + 1) x a′ b′ (gained F i r f)
+    row-step {r′} {s′} p k raised cancelled =
+        let e = f i · inv (getD r i 0) in
+        let α = getD xs i 0 in
+        rw (p, k)
+        (record {
+          at = λ t h l. ⊕-eq
+              (ap₂ (λ y z. (getD xs t 0 ⊕ x) · gained F i r f t ⊕ (e · y ⊕ b · z)) (raised t h l) (cancelled t h l)
+              ∙ ap (λ y. y ⊕ (e · ((getD xs t 0 ⊕ α) · getD r t 0) ⊕ b · (getD s t 0 ⊕ getD s i 0 · inv (getD r i 0) · getD r t 0)))
+              (spread (getD xs t 0 ⊕ x) (f t) e (getD r t 0) ∙ ap (λ y. y ⊕ (getD xs t 0 ⊕ x) · (e · getD r t 0)) (w .at t (omega arith) l))
+              ∙ step-sides (getD xs t 0) x α a b (getD s i 0 · inv (getD r i 0)) e (getD r t 0) (getD s t 0)
+              ∙ ap (λ y. (y ⊕ (a ⊕ getD s i 0 · inv (getD r i 0) · b)) · getD r t 0) balance ∙ vanish (a ⊕ getD s i 0 · inv (getD r i 0) · b) (getD r t 0));
           first-lt = mul-lt _ _;
           second-lt = w .second-lt;
-        }
-      where
-        vanish : (y z : ℕ) → (y ⊕ y) · z ≡ 0
-        vanish y z = simp ring
+        })
 
-  -- the row of the new place
-  pub row-new : (xs r r′ s′ : List ℕ) (c : ℕ) {o h a b : ℕ} → ((i : ℕ) → i < length xs → getD r′ i 0 ≡ (getD xs i 0 ⊕ getD xs c 0) · getD r i 0) → a ≡ inv (getD r c 0) → b ≡ 0 → h ≡ a · getD r o 0
-      → Row F xs r′ s′ (getD xs c 0) a b o h (λ i. inv (getD r c 0) · getD r i 0)
-  row-new xs r r′ s′ c p e z k =
+  -- the row of the new point
+  pub row-new : (xs r r′ s′ : List ℕ) (i : ℕ) {a b : ℕ} → ((t : ℕ) → i + 1 ≤ t → t < length xs → getD r′ t 0 ≡ (getD xs t 0 ⊕ getD xs i 0) · getD r t 0) → a ≡ inv (getD r i 0) → b ≡ 0
+      → Row F xs r′ s′ (i + 1) (getD xs i 0) a b (λ t. inv (getD r i 0) · getD r t 0)
+  row-new xs r r′ s′ i p e z =
       rw (e, z)
       (record {
-        at = λ i m. sym (ap (λ y. inv (getD r c 0) · y ⊕ 0 · getD s′ i 0) (p i m) ∙ moved (inv (getD r c 0)) (getD xs i 0 ⊕ getD xs c 0) (getD r i 0) (getD s′ i 0));
-        other = k ∙ rw e;
+        at = λ t h l. sym (ap (λ y. inv (getD r i 0) · y ⊕ 0 · getD s′ t 0) (p t h l) ∙ moved (inv (getD r i 0)) (getD xs t 0 ⊕ getD xs i 0) (getD r t 0) (getD s′ t 0));
         first-lt = inv-lt _;
         second-lt = zero-lt K;
       })
@@ -122,99 +82,121 @@ module _ {F : Arithmetic} (K : Field F) where
   pub no-gain : (x y z : ℕ) → x ≡ x ⊕ 0 · y · z
   no-gain x y z = simp ring
 
+  pub no-factor : (y z : ℕ) → y ≡ 0 → 0 ≡ y · z
+  no-factor y z e = none z ∙ ap (λ x. x · z) (sym e)
+    where
+      none : (z : ℕ) → 0 ≡ 0 · z
+      none z = simp ring
+
   -- the functions the other way round
-  pub row-swap : {xs l u : List ℕ} {x a b o h : ℕ} {f : ℕ → ℕ} → Row F xs l u x a b o h f → Row F xs u l x b a o h f
-  row-swap {l = l} {u} {a = a} {b} w = record { at = λ i m. w .at i m ∙ swap (a · getD l i 0) (b · getD u i 0); other = w .other; first-lt = w .second-lt; second-lt = w .first-lt }
+  pub row-swap : {xs l u : List ℕ} {d x a b : ℕ} {f : ℕ → ℕ} → Row F xs l u d x a b f → Row F xs u l d x b a f
+  row-swap {l = l} {u} {a = a} {b} w = record { at = λ t h m. w .at t h m ∙ swap (a · getD l t 0) (b · getD u t 0); first-lt = w .second-lt; second-lt = w .first-lt }
     where
       swap : (x y : ℕ) → x ⊕ y ≡ y ⊕ x
       swap x y = simp ring
 
+  -- all rows together, over the raised function
+  whole-over : (g : ℕ → ℕ) (c i : ℕ) → c < q → total g i ≡ 1 → total (λ j. g j · c) i ≡ c
+  whole-over g c i h e = total-times K g c i ∙ ap (λ y. y · c) e ∙ one-mul c h
+
 -- ---- all rows at once
 
-module _ {m : ℕ} (k : IsField m) (i c : ℕ) (xs : List ℕ) {rx others : List ℕ} (r s r′ s′ : List ℕ) {a b h a′ b′ h′ : List ℕ} (inside : c < length xs)
-    (raised : (t : ℕ) → t < length xs → getD r′ t 0 ≡ product m (getD xs t 0 ⊕ getD xs c 0) (getD r t 0))
-    (w : RowsRaised m i (getD xs c 0) (getD r c 0) (getD s c 0) rx others r a b h a′ b′ h′) where
-  raised-old : ((t : ℕ) → t < length xs → getD s′ t 0 ≡ getD s t 0 ⊕ product m (product m (getD s c 0) (inverse m (getD r c 0))) (getD r t 0))
-      → getD r c 0 < size m → getD s c 0 < size m → (getD r c 0 ≡ 0 → ⊥) → getD xs c 0 < size m → (j : ℕ) → j < i → (f : ℕ → ℕ) → getD rx j 0 < size m → f c < size m
-      → (getD rx j 0 ≡ getD xs c 0 → getD others j 0 ≡ c) → RowIn m xs rx others r s a b h j f → RowIn m xs rx others r′ s′ a′ b′ h′ j (gained (galois m) c r f)
-  raised-old cancelled r-lt s-lt some c-lt j l f x-lt f-lt opposite row =
-      let e : factorAt m (getD xs c 0) (getD r c 0) (getD s c 0) rx a b h j ≡ product m (f c) (inverse m (getD r c 0))
-      = factor-is (galois-field k) row inside r-lt s-lt some c-lt x-lt f-lt opposite in
-      rw (w .first j l ∙ e, w .second j l)
-      (row-step (galois-field k) row inside r-lt s-lt some raised cancelled (w .other j l ∙ ap (λ y. getD h j 0 ⊕ product m y (getD r (getD others j 0) 0)) e))
+module _ {m : ℕ} (k : IsField m) (i : ℕ) (xs : List ℕ) (r s r′ s′ : List ℕ) {t : ℕ} {a b a′ b′ : List ℕ} (w : RowsRaised m i (getD r i 0) t xs a b a′ b′)
+    (raised : (y : ℕ) → i + 1 ≤ y → y < length xs → getD r′ y 0 ≡ product m (getD xs y 0 ⊕ getD xs i 0) (getD r y 0)) where
+  raised-old : t ≡ product m (getD s i 0) (inverse m (getD r i 0))
+      → ((y : ℕ) → i + 1 ≤ y → y < length xs → getD s′ y 0 ≡ getD s y 0 ⊕ product m (product m (getD s i 0) (inverse m (getD r i 0))) (getD r y 0))
+      → (f : ℕ → ℕ → ℕ) → Ready m i xs r r s f → ((j : ℕ) → j < i → RowIn m xs r s i a b j (f j)) → (j : ℕ) → j < i → RowIn m xs r′ s′ (i + 1) a′ b′ j (gained (galois m) i r (f j))
+  raised-old ratio cancelled f e rows j l =
+      row-step (galois-field k) (rows j l) (e .inside) (e .first-lt) (e .some) (by (ℕ-discrete (getD xs j 0) (getD xs i 0))) (w .second j l) raised cancelled
+    where
+      K : Field (galois m)
+      K = galois-field k
 
-  raised-new : getD rx i 0 ≡ getD xs c 0 → RowIn m xs rx others r′ s′ a′ b′ h′ i (λ t. product m (inverse m (getD r c 0)) (getD r t 0))
-  raised-new e = rw e (row-new (galois-field k) xs r r′ s′ c raised (w .new-first) (w .new-second) (w .new-other ∙ ap (λ y. product m y (getD r (getD others i 0) 0)) (sym (w .new-first))))
+      divides : (y : ℕ) → y < i → product m (getD xs i 0 ⊕ getD xs y 0) (product m (f y i) (inverse m (getD r i 0))) ≡ getD a y 0 ⊕ product m t (getD b y 0)
+      divides y h = balance K (rows y h) (e .inside) (e .first-lt) (e .some) ∙ ap (λ z. getD a y 0 ⊕ product m z (getD b y 0)) (sym ratio)
 
--- what is raised, and what it is at the point
-raised-zero : (c : ℕ) (l u : List ℕ) → getD l c 0 ≡ 0 → raisedOf c l u ≡ u
-raised-zero c l u z = rw (eq-eqb (getD l c 0) 0 z)
+      small : (y : ℕ) → y < i → getD xs y 0 < size m
+      small y h = e .point-lt y (omega (arith, e .inside))
 
-raised-other : (c : ℕ) (l u : List ℕ) → (getD l c 0 ≡ 0 → ⊥) → raisedOf c l u ≡ l
-raised-other c l u z = rw (ne-eqb (getD l c 0) 0 z)
+      by : Dec (getD xs j 0 ≡ getD xs i 0) → getD a′ j 0 ≡ product m (f j i) (inverse m (getD r i 0))
+      by (yes d) =
+          w .over j l d (λ y h g. e .alone j y l h d g)
+          ∙ sym (left-over K (e .point-lt i (e .inside)) small (λ y h. K .mul-lt _ _) divides j l d (λ y h g. e .alone j y l h d g)
+          (whole-over K (λ y. f y i) (inverse m (getD r i 0)) i (K .inv-lt _) (e .whole (omega arith))))
+      by (no d) = w .away j l d ∙ part-away K (e .point-lt i (e .inside)) small (λ y h. K .mul-lt _ _) divides j l d
 
-module _ {m : ℕ} (k : IsField m) (i c : ℕ) (xs : List ℕ) {rx others : List ℕ} (l u l′ u′ : List ℕ) {a b h a′ b′ h′ : List ℕ} (inside : c < length xs) (p : Passes m xs c 0 l u l′ u′) where
+  raised-new : RowIn m xs r′ s′ (i + 1) a′ b′ i (λ t. product m (inverse m (getD r i 0)) (getD r t 0))
+  raised-new = row-new (galois-field k) xs r r′ s′ i raised (w .new-first) (w .new-second)
+
+-- what is raised
+raised-zero : (i : ℕ) (l u : List ℕ) → getD l i 0 ≡ 0 → raisedOf i l u ≡ u
+raised-zero i l u z = rw (eq-eqb (getD l i 0) 0 z)
+
+raised-other : (i : ℕ) (l u : List ℕ) → (getD l i 0 ≡ 0 → ⊥) → raisedOf i l u ≡ l
+raised-other i l u z = rw (ne-eqb (getD l i 0) 0 z)
+
+ready-round : {m i : ℕ} {xs r l u : List ℕ} {f : ℕ → ℕ → ℕ} → Ready m i xs r l u f → Ready m i xs r u l f
+ready-round e =
+    record { inside = e .inside; point-lt = e .point-lt; first-lt = e .second-lt; second-lt = e .first-lt; value-lt = e .value-lt; some = e .some; whole = e .whole; alone = e .alone }
+
+module _ {m : ℕ} (k : IsField m) (i : ℕ) (xs : List ℕ) (l u l′ u′ : List ℕ) {a b a′ b′ : List ℕ} (p : Passes m xs i (i + 1) l u l′ u′) where
   -- L is zero at the point: U is raised
-  pub rows-keep : getD l c 0 ≡ 0 → RowsRaised m i (getD xs c 0) (getD u c 0) (getD l c 0) rx others u b a h b′ a′ h′ → RowsStep m i c xs rx others u l u a b h l′ u′ a′ b′ h′
+  rows-keep : getD l i 0 ≡ 0 → RowsRaised m i (getD u i 0) 0 xs b a b′ a′ → RowsStep m i xs u l u a b l′ u′ a′ b′
   rows-keep z w =
       record {
         first-size = w .second-size;
         second-size = w .first-size;
-        other-size = w .other-size;
-        old = λ j n f e row.
+        old = λ f e rows j n.
             row-swap (galois-field k)
-            (raised-old k i c xs u l u′ l′ inside (λ t g. p .raised-high z t (omega arith) g) w
-            (λ t g. p .kept-low z t (omega arith) g ∙ no-gain (galois-field k) (getD l t 0) (inverse m (getD u c 0)) (getD u t 0) ∙ ap (λ y. getD l t 0 ⊕ product m (product m y (inverse m (getD u c 0))) (getD u t 0)) (sym z))
-            (e .second-lt) (e .first-lt) (e .some) (e .point-lt) j n f (e .own-lt) (e .value-lt) (e .opposite) (row-swap (galois-field k) row));
-        new = λ e. row-swap (galois-field k) (raised-new k i c xs u l u′ l′ inside (λ t g. p .raised-high z t (omega arith) g) w e);
+            (raised-old k i xs u l u′ l′ w (p .raised-high z) (no-factor (galois-field k) (getD l i 0) (inverse m (getD u i 0)) z)
+            (λ t h g. p .kept-low z t h g ∙ no-gain (galois-field k) (getD l t 0) (inverse m (getD u i 0)) (getD u t 0) ∙ ap (λ y. getD l t 0 ⊕ product m (product m y (inverse m (getD u i 0))) (getD u t 0)) (sym z))
+            f (ready-round e) (λ y h. row-swap (galois-field k) (rows y h)) j n);
+        new = row-swap (galois-field k) (raised-new k i xs u l u′ l′ w (p .raised-high z));
       }
 
   -- it is not
-  pub rows-step : (getD l c 0 ≡ 0 → ⊥) → RowsRaised m i (getD xs c 0) (getD l c 0) (getD u c 0) rx others l a b h a′ b′ h′ → RowsStep m i c xs rx others l l u a b h l′ u′ a′ b′ h′
-  rows-step z w =
+  rows-raise : (getD l i 0 ≡ 0 → ⊥) → RowsRaised m i (getD l i 0) (product m (getD u i 0) (inverse m (getD l i 0))) xs a b a′ b′ → RowsStep m i xs l l u a b l′ u′ a′ b′
+  rows-raise z w =
       record {
         first-size = w .first-size;
         second-size = w .second-size;
-        other-size = w .other-size;
-        old = λ j n f e row.
-            raised-old k i c xs l u l′ u′ inside (λ t g. p .raised-low z t (omega arith) g) w (λ t g. p .cancelled-high z t (omega arith) g)
-            (e .first-lt) (e .second-lt) z (e .point-lt) j n f (e .own-lt) (e .value-lt) (e .opposite) row;
-        new = λ e. raised-new k i c xs l u l′ u′ inside (λ t g. p .raised-low z t (omega arith) g) w e;
+        old = raised-old k i xs l u l′ u′ w (p .raised-low z) refl (p .cancelled-high z);
+        new = raised-new k i xs l u l′ u′ w (p .raised-low z);
       }
 
-  pub rows-both : RowsEither m i c xs rx others l u a b h a′ b′ h′ → RowsStep m i c xs rx others (raisedOf c l u) l u a b h l′ u′ a′ b′ h′
+  pub rows-both : RowsEither m i xs l u a b a′ b′ → RowsStep m i xs (raisedOf i l u) l u a b l′ u′ a′ b′
   rows-both w =
-      elim (ℕ-discrete (getD l c 0) 0) [
-        | yes z ↦ rw (raised-zero c l u z) (rows-keep z (w .by-high z))
-        | no n ↦ rw (raised-other c l u n) (rows-step n (w .by-low n))
+      elim (ℕ-discrete (getD l i 0) 0) [
+        | yes z ↦ rw (raised-zero i l u z) (rows-keep z (w .by-high z))
+        | no n ↦ rw (raised-other i l u n) (rows-raise n (w .by-low n))
       ]
 
 -- the functions the other way round
-pub rows-round : {m i c : ℕ} (k : IsField m) {xs rx others r l u a b h l′ u′ a′ b′ h′ : List ℕ} → RowsStep m i c xs rx others r u l b a h u′ l′ b′ a′ h′ → RowsStep m i c xs rx others r l u a b h l′ u′ a′ b′ h′
+pub rows-round : {m i : ℕ} (k : IsField m) {xs r l u a b l′ u′ a′ b′ : List ℕ} → RowsStep m i xs r u l b a u′ l′ b′ a′ → RowsStep m i xs r l u a b l′ u′ a′ b′
 rows-round k s =
     record {
       first-size = s .second-size;
       second-size = s .first-size;
-      other-size = s .other-size;
-      old = λ j n f e row.
-          row-swap (galois-field k)
-          (s .old j n f
-          (record { point-lt = e .point-lt; first-lt = e .second-lt; second-lt = e .first-lt; own-lt = e .own-lt; value-lt = e .value-lt; opposite = e .opposite; some = e .some })
-          (row-swap (galois-field k) row));
-      new = λ e. row-swap (galois-field k) (s .new e);
+      old = λ f e rows j n. row-swap (galois-field k) (s .old f (ready-round e) (λ y h. row-swap (galois-field k) (rows y h)) j n);
+      new = row-swap (galois-field k) (s .new);
     }
 
 -- the entry that the factors give is the value
-pub entry-is : {m : ℕ} (k : IsField m) {xs l u : List ℕ} {x a b o h c i : ℕ} {f : ℕ → ℕ} → Row (galois m) xs l u x a b o h f → i < length xs → getD xs i 0 < size m → x < size m → f i < size m
-    → (i ≡ c → f i ≡ 1) → (getD xs i 0 ≡ x → (i ≡ c → ⊥) → i ≡ o) → entryAt m xs l u x c a b h i ≡ f i
-entry-is {m} k {xs} {l} {u} {x} {a} {b} {o} {h} {c} {i} {f} w inside i-lt x-lt f-lt own other = by (ℕ-discrete (getD xs i 0) x) (ℕ-discrete i c)
+pub entry-is : {m : ℕ} (k : IsField m) (xs l u a b : List ℕ) (count s j : ℕ) (f : ℕ → ℕ → ℕ) → count ≤ s → s < length xs → ((y : ℕ) → y < length xs → getD xs y 0 < size m)
+    → ((y : ℕ) → y < count → f y s < size m) → ((y : ℕ) → y < count → RowIn m xs l u count a b y (f y)) → total (λ y. f y s) count ≡ 1
+    → ((y z : ℕ) → y < count → z < count → getD xs y 0 ≡ getD xs s 0 → getD xs z 0 ≡ getD xs s 0 → z ≡ y) → j < count → entryAt m xs l u a b count j s ≡ f j s
+entry-is {m} k xs l u a b count s j f later inside x-lt f-lt rows whole alone h = by (ℕ-discrete (getD xs s 0) (getD xs j 0))
   where
-    away : ℕ
-    away = product m (product m a (getD l i 0) ⊕ product m b (getD u i 0)) (inverse m (getD xs i 0 ⊕ x))
+    divides : (y : ℕ) → y < count → product m (getD xs s 0 ⊕ getD xs y 0) (f y s) ≡ product m (getD a y 0) (getD l s 0) ⊕ product m (getD b y 0) (getD u s 0)
+    divides y g = rows y g .at s later inside
 
-    by : Dec (getD xs i 0 ≡ x) → Dec (i ≡ c) → entryAt m xs l u x c a b h i ≡ f i
-    by (yes e) (yes g) = ap₂ (λ s t. cond s (cond t 1 h) away) (eq-eqb _ _ e) (eq-eqb _ _ g) ∙ sym (own g)
-    by (yes e) (no g) = ap₂ (λ s t. cond s (cond t 1 h) away) (eq-eqb _ _ e) (ne-eqb _ _ g) ∙ w .other ∙ ap f (sym (other e g))
-    by (no e) d =
-        ap (λ s. cond s (cond (eqb i c) 1 h) away) (ne-eqb _ _ e)
-        ∙ sym (divided (galois-field k) (getD xs i 0 ⊕ x) (f i) (product m a (getD l i 0) ⊕ product m b (getD u i 0)) (galois-field k .add-lt _ _ i-lt x-lt) f-lt (λ z. e (⊕-eq z)) (w .at i inside))
+    small : (y : ℕ) → y < count → getD xs y 0 < size m
+    small y g = x-lt y (omega arith)
+
+    by : Dec (getD xs s 0 ≡ getD xs j 0) → entryAt m xs l u a b count j s ≡ f j s
+    by (yes e) =
+        ap (λ t. cond t (1 ⊕ total (quotientAt m (getD xs s 0) (getD l s 0) (getD u s 0) xs a b) count) (quotientAt m (getD xs s 0) (getD l s 0) (getD u s 0) xs a b j)) (eq-eqb _ _ e)
+        ∙ sym (left-over (galois-field k) (x-lt s inside) small f-lt divides j h (sym e) (λ y g d. alone j y h g (sym e) d) whole)
+    by (no e) =
+        ap (λ t. cond t (1 ⊕ total (quotientAt m (getD xs s 0) (getD l s 0) (getD u s 0) xs a b) count) (quotientAt m (getD xs s 0) (getD l s 0) (getD u s 0) xs a b j)) (ne-eqb _ _ e)
+        ∙ part-away (galois-field k) (x-lt s inside) small f-lt divides j h (λ d. e (sym d))

@@ -1,4 +1,6 @@
--- The laws of the rows.
-pub mod Updates
+-- Laws of the rows.
+pub mod Arranged
+pub mod Sums
+pub mod Turns
 pub mod Adding
 pub mod Words

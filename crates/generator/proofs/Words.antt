@@ -1,9 +1,10 @@
--- A row's factors stand for the word of its unit message: both gain the same multiple of the raised function at each place.
+-- A row's factors stand for the word of its unit message: both lose the same multiple of the raised function at each point. The words of all rows are 1 together.
 use Prim.Native.Nat.{ℕ, zero, suc, _+_, _<_, _≤_}
 use mathlib.Core.Path.{_≡_, refl, sym, _∙_, ap, ap₂}
 use mathlib.Core.Bool.{Bool, true, false, cond}
 use mathlib.Core.List.{List, []}
 use native.Mathlib.Decide.{ℕ-discrete}
+use native.Mathlib.Numerals.{add-one}
 use native.Mathlib.Omega.{arith}
 use borrow.Author.Tests.{eq-eqb, ne-eqb}
 use lib.Dec.{eqb}
@@ -20,60 +21,76 @@ use Rattle.elliptic.specs.Curve.{point}
 use Rattle.elliptic.specs.Pair.{State, evaluate, corrected, kept, step, after}
 use Rattle.elliptic.proofs.Function.{evaluate-add}
 use Rattle.engine.specs.declared.pair.Sizes.{Sizes}
-use Rattle.engine.specs.Places.{valueAt, pointOf, pointsOf, Within}
+use Rattle.engine.specs.Places.{valueAt}
 use Rattle.engine.proofs.States.{SamePair, step-zero, after-pair}
-use Rattle.engine.proofs.Runs.{after-more, step-word}
-use Rattle.values.specs.Values.{Shows, Shown, ShownIn}
-use Rattle.generator.specs.Rows.{Row, RowIn, RowsStep, Ready, Chosen, Able, raisedOf, unitSymbols, indexAt, rowValue, Rows}
+use Rattle.engine.proofs.Runs.{step-word}
+use Rattle.values.specs.Values.{Shows, Shown, ShownIn, pointsIn}
+use Rattle.values.proofs.Runs.{start-low}
+use Rattle.generator.specs.Rows.{Row, RowIn, RowsStep, Ready, Able, raisedOf, unitSymbols, pairAfter, rowValue, Rows, total, gained}
+use Rattle.generator.proofs.Sums.{total-as, total-sum, total-times}
 
 -- the same function in other words
 module _ {F : Arithmetic} where
   infixl 70 _·_
   open Arithmetic F using (_·_)
 
-  row-as : {xs l u : List ℕ} {x a b o h : ℕ} {f g : ℕ → ℕ} → o < length xs → ((t : ℕ) → t < length xs → f t ≡ g t) → Row F xs l u x a b o h f → Row F xs l u x a b o h g
-  row-as {xs} {x = x} {o = o} inside e w =
-      record { at = λ i m. ap (λ v. (getD xs i 0 ⊕ x) · v) (sym (e i m)) ∙ w .at i m; other = w .other ∙ e o inside; first-lt = w .first-lt; second-lt = w .second-lt }
+  row-as : {xs l u : List ℕ} {d x a b : ℕ} {f g : ℕ → ℕ} → ((t : ℕ) → d ≤ t → t < length xs → f t ≡ g t) → Row F xs l u d x a b f → Row F xs l u d x a b g
+  row-as {xs} {x = x} e w = record { at = λ t h m. ap (λ v. (getD xs t 0 ⊕ x) · v) (sym (e t h m)) ∙ w .at t h m; first-lt = w .first-lt; second-lt = w .second-lt }
 
--- ---- one more place, by values
+module _ {F : Arithmetic} (K : Field F) where
+  infixl 70 _·_
+  open Arithmetic F using (q, _·_)
 
-module _ {m : ℕ} (k : IsField m) (xs ys places us : List ℕ) (i : ℕ) (more : i < length places) (inside : indexAt places i < length xs) {L U : List ℕ} {low high : ℕ}
-    (s : Shown m xs ys 0 L U low high (after (galois m) (pointsOf xs ys places) us i)) where
-  abbrev state : State
-  state = after (galois m) (pointsOf xs ys places) us i
+  nothing-before : (a c : ℕ) → 0 ⊕ 0 · a ⊕ c ≡ c
+  nothing-before a c = simp ring
 
-  abbrev c : ℕ
-  c = indexAt places i
-
-  gain : (g w : List ℕ) (G : List ℕ) → Shows m xs ys 0 g G → (t : ℕ) → t < length xs
-      → valueAt m xs ys (corrected (galois m) (pointOf xs ys (getD places i 0)) (getD us i 0) g w) t
-      ≡ valueAt m xs ys w t ⊕ product m (product m (getD us i 0 ⊕ valueAt m xs ys w c) (inverse m (getD G c 0))) (getD G t 0)
-  unfolding corrected
-  gain g w G p t h =
-      evaluate-add (galois-field k) _ g w _
-      ∙ ap₂ (λ y z. valueAt m xs ys w t ⊕ product m (product m (getD us i 0 ⊕ valueAt m xs ys w c) (inverse m y)) z) (sym (p .at c (omega arith) inside)) (sym (p .at t (omega arith) h))
-
-  pub word-next : (t : ℕ) → t < length xs
-      → valueAt m xs ys (after (galois m) (pointsOf xs ys places) us (i + 1) .word) t
-      ≡ valueAt m xs ys (state .word) t ⊕ product m (product m (getD us i 0 ⊕ valueAt m xs ys (state .word) c) (inverse m (getD (raisedOf c L U) c 0))) (getD (raisedOf c L U) t 0)
-  unfolding kept
-  word-next t h = ap (λ y. valueAt m xs ys (y .word) t) (sym (after-more xs ys places i more (galois m) us)) ∙ by (ℕ-discrete (getD L c 0) 0)
+  one-stays : (c : ℕ) → c < q → 1 ⊕ 1 · c ⊕ c ≡ 1
+  one-stays c h = ap (λ y. 1 ⊕ y ⊕ c) (K .one-mul c h) ∙ cancel 1 c
     where
-      at-low : getD L c 0 ≡ evaluate (galois m) (state .low) (pointOf xs ys (getD places i 0))
-      at-low = s .low-values .at c (omega arith) inside
+      cancel : (a c : ℕ) → a ⊕ c ⊕ c ≡ a
+      cancel a c = simp ring
 
-      by : Dec (getD L c 0 ≡ 0) → valueAt m xs ys (step (galois m) (pointOf xs ys (getD places i 0)) (getD us i 0) state .word) t
-          ≡ valueAt m xs ys (state .word) t ⊕ product m (product m (getD us i 0 ⊕ valueAt m xs ys (state .word) c) (inverse m (getD (raisedOf c L U) c 0))) (getD (raisedOf c L U) t 0)
+-- ---- one more point, by values
+
+module _ {m : ℕ} (k : IsField m) (xs ys us : List ℕ) (i : ℕ) (inside : i < length xs) {L U : List ℕ} {low high : ℕ}
+    (s : Shown m xs ys i L U low high (after (galois m) (pointsIn xs ys) us i)) where
+  abbrev state : State
+  state = after (galois m) (pointsIn xs ys) us i
+
+  abbrev here : Point
+  here = point (getD xs i 0) (getD ys i 0)
+
+  gain : (g w : List ℕ) (G : List ℕ) → Shows m xs ys i g G → (t : ℕ) → i ≤ t → t < length xs
+      → valueAt m xs ys (corrected (galois m) here (getD us i 0) g w) t
+      ≡ valueAt m xs ys w t ⊕ product m (product m (getD us i 0 ⊕ valueAt m xs ys w i) (inverse m (getD G i 0))) (getD G t 0)
+  unfolding corrected
+  gain g w G p t e h =
+      evaluate-add (galois-field k) _ g w _
+      ∙ ap₂ (λ y z. valueAt m xs ys w t ⊕ product m (product m (getD us i 0 ⊕ valueAt m xs ys w i) (inverse m y)) z) (sym (p .at i (omega arith) inside)) (sym (p .at t e h))
+
+  one-more : step (galois m) here (getD us i 0) state ≡ after (galois m) (pointsIn xs ys) us (i + 1)
+  unfolding after
+  one-more = rw (add-one, getD-table (λ i. point (getD xs i 0) (getD ys i 0)) (length xs) i (point 0 0) inside)
+
+  word-next : (t : ℕ) → i ≤ t → t < length xs
+      → valueAt m xs ys (after (galois m) (pointsIn xs ys) us (i + 1) .word) t
+      ≡ valueAt m xs ys (state .word) t ⊕ product m (product m (getD us i 0 ⊕ valueAt m xs ys (state .word) i) (inverse m (getD (raisedOf i L U) i 0))) (getD (raisedOf i L U) t 0)
+  unfolding kept
+  word-next t e h = ap (λ y. valueAt m xs ys (y .word) t) (sym one-more) ∙ by (ℕ-discrete (getD L i 0) 0)
+    where
+      at-low : getD L i 0 ≡ evaluate (galois m) (state .low) here
+      at-low = s .low-values .at i (omega arith) inside
+
+      by : Dec (getD L i 0 ≡ 0) → valueAt m xs ys (step (galois m) here (getD us i 0) state .word) t
+          ≡ valueAt m xs ys (state .word) t ⊕ product m (product m (getD us i 0 ⊕ valueAt m xs ys (state .word) i) (inverse m (getD (raisedOf i L U) i 0))) (getD (raisedOf i L U) t 0)
       by (yes z) =
-          rw (eq-eqb (getD L c 0) 0 z)
-          (ap (λ y. valueAt m xs ys (y .word) t) (sym (step-zero (galois m) (pointOf xs ys (getD places i 0)) (getD us i 0) state at-low z))
-          ∙ gain (state .high) (state .word) U (s .high-values) t h)
+          rw (eq-eqb (getD L i 0) 0 z)
+          (ap (λ y. valueAt m xs ys (y .word) t) (sym (step-zero (galois m) here (getD us i 0) state at-low z)) ∙ gain (state .high) (state .word) U (s .high-values) t e h)
       by (no z) =
-          rw (ne-eqb (getD L c 0) 0 z)
-          (ap (λ w. valueAt m xs ys w t) (step-word (galois m) (pointOf xs ys (getD places i 0)) (getD us i 0) state (λ e. z (at-low ∙ e)))
-          ∙ gain (state .low) (state .word) L (s .low-values) t h)
+          rw (ne-eqb (getD L i 0) 0 z)
+          (ap (λ w. valueAt m xs ys w t) (step-word (galois m) here (getD us i 0) state (λ e. z (at-low ∙ e))) ∙ gain (state .low) (state .word) L (s .low-values) t e h)
 
--- ---- before its own place a row's word is zero
+-- ---- before its own point a row's word is zero
 
 module _ {F : Arithmetic} (K : Field F) (points : List Point) (us : List ℕ) where
   infixl 70 _·_
@@ -88,7 +105,7 @@ module _ {F : Arithmetic} (K : Field F) (points : List Point) (us : List ℕ) wh
   unchanged P Q g w z =
       evaluate-add K _ g w Q ∙ ap₂ (λ a b. a ⊕ (0 ⊕ b) · inv (evaluate F g P) · evaluate F g Q) (z Q) (z P) ∙ nothing _ _
 
-  pub first-value : (y z : ℕ) → y < q → y · z ≡ 0 ⊕ (1 ⊕ 0) · y · z
+  first-value : (y z : ℕ) → y < q → y · z ≡ 0 ⊕ (1 ⊕ 0) · y · z
   first-value y z h = ap (λ v. v · z) (sym (one-mul y h)) ∙ spread y z
     where
       spread : (y z : ℕ) → 1 · y · z ≡ 0 ⊕ (1 ⊕ 0) · y · z
@@ -102,7 +119,7 @@ module _ {F : Arithmetic} (K : Field F) (points : List Point) (us : List ℕ) wh
       by (yes z) = ap (λ y. evaluate F (y .word) Q) (sym (step-zero F P 0 s refl z)) ∙ unchanged P Q (s .high) (s .word) before
       by (no z) = ap (λ w. evaluate F w Q) (step-word F P 0 s z) ∙ unchanged P Q (s .low) (s .word) before
 
-  pub zero-word : (i : ℕ) → ((t : ℕ) → t < i → getD us t 0 ≡ 0) → (Q : Point) → evaluate F (after F points us i .word) Q ≡ 0
+  zero-word : (i : ℕ) → ((t : ℕ) → t < i → getD us t 0 ≡ 0) → (Q : Point) → evaluate F (after F points us i .word) Q ≡ 0
   unfolding after evaluate
   zero-word zero h Q = refl
   zero-word (suc i) h Q =
@@ -131,15 +148,8 @@ either-lt : {q : ℕ} (t : Bool) (l u : List ℕ) (c : ℕ) → getD (cond t u l
 either-lt true l u c h g = (g, h)
 either-lt false l u c h g = (h, g)
 
-module _ {m : ℕ} (k : IsField m) (xs ys places : List ℕ) {rx others : List ℕ} (count i : ℕ) (more : i < count) (enough : count ≤ length places)
-    (within : (j : ℕ) → j < count → indexAt places j < length xs) (chosen : Chosen xs places rx others count) (able : Able m xs ys places others count) (l u : List ℕ) (n : Sizes)
-    (s : ShownIn m xs ys 0 l u n (after (galois m) (pointsOf xs ys places) [] i)) where
-  abbrev at : ℕ
-  at = indexAt places i
-
-  inside : at < length xs
-  inside = within i more
-
+module _ {m : ℕ} (k : IsField m) (xs ys : List ℕ) (count i : ℕ) (more : i < count) (inside : i < length xs) (able : Able m xs ys count) (l u : List ℕ) (n : Sizes)
+    (s : ShownIn m xs ys i l u n (pairAfter m xs ys i)) where
   abbrev low-list : List ℕ
   low-list = cond (n .turned) u l
 
@@ -147,61 +157,83 @@ module _ {m : ℕ} (k : IsField m) (xs ys places : List ℕ) {rx others : List �
   high-list = cond (n .turned) l u
 
   abbrev raised : List ℕ
-  raised = raisedOf at low-list high-list
+  raised = raisedOf i low-list high-list
 
-  low-at : getD low-list at 0 ≡ valueAt m xs ys (after (galois m) (pointsOf xs ys places) [] i .low) at
-  low-at = s .low-values .at at (omega arith) inside
+  abbrev value : ℕ → ℕ → ℕ
+  value j t = rowValue m xs ys count j i t
 
-  high-at : getD high-list at 0 ≡ valueAt m xs ys (after (galois m) (pointsOf xs ys places) [] i .high) at
-  high-at = s .high-values .at at (omega arith) inside
+  low-at : getD low-list i 0 ≡ valueAt m xs ys (pairAfter m xs ys i .low) i
+  low-at = s .low-values .at i (omega arith) inside
 
-  not-zero : getD raised at 0 ≡ 0 → ⊥
-  not-zero = by (ℕ-discrete (getD low-list at 0) 0)
+  high-at : getD high-list i 0 ≡ valueAt m xs ys (pairAfter m xs ys i .high) i
+  high-at = s .high-values .at i (omega arith) inside
+
+  not-zero : getD raised i 0 ≡ 0 → ⊥
+  not-zero = by (ℕ-discrete (getD low-list i 0) 0)
     where
-      by : Dec (getD low-list at 0 ≡ 0) → getD raised at 0 ≡ 0 → ⊥
-      by (yes z) e = able .some i more (sym low-at ∙ z) (sym high-at ∙ (rw (eq-eqb (getD low-list at 0) 0 z) at e))
-      by (no z) e = z (rw (ne-eqb (getD low-list at 0) 0 z) at e)
+      by : Dec (getD low-list i 0 ≡ 0) → getD raised i 0 ≡ 0 → ⊥
+      by (yes z) e = able .some i more (sym low-at ∙ z) (sym high-at ∙ (rw (eq-eqb (getD low-list i 0) 0 z) at e))
+      by (no z) e = z (rw (ne-eqb (getD low-list i 0) 0 z) at e)
 
-  next : (j t : ℕ) → t < length xs → rowValue m xs ys places count j (i + 1) t
-      ≡ rowValue m xs ys places count j i t ⊕ product m (product m (getD (unitSymbols count j) i 0 ⊕ rowValue m xs ys places count j i at) (inverse m (getD raised at 0))) (getD raised t 0)
-  next j t g = word-next k xs ys places (unitSymbols count j) i (omega arith) inside (shown-as (after-pair (galois m) (pointsOf xs ys places) [] (unitSymbols count j) i) s) t g
+  next : (j t : ℕ) → i ≤ t → t < length xs → rowValue m xs ys count j (i + 1) t
+      ≡ value j t ⊕ product m (product m (getD (unitSymbols count j) i 0 ⊕ value j i) (inverse m (getD raised i 0))) (getD raised t 0)
+  next j t e g = word-next k xs ys (unitSymbols count j) i inside (shown-as (after-pair (galois m) (pointsIn xs ys) [] (unitSymbols count j) i) s) t e g
 
-  pub rows-next : {a b h l′ u′ a′ b′ h′ : List ℕ} → Rows m xs ys places rx others count l u a b h i → RowsStep m i at xs rx others raised l u a b h l′ u′ a′ b′ h′
-      → Rows m xs ys places rx others count l′ u′ a′ b′ h′ (i + 1)
-  rows-next {a} {b} {h} {l′} {u′} {a′} {b′} {h′} rows w = record { row = λ j g. by j g (ℕ-discrete j i) }
+  old-next : (j t : ℕ) → (i ≡ j → ⊥) → i ≤ t → t < length xs → gained (galois m) i raised (value j) t ≡ rowValue m xs ys count j (i + 1) t
+  old-next j t d e g =
+      ap (λ v. value j t ⊕ product m (product m v (inverse m (getD raised i 0))) (getD raised t 0)) (sym (zero-⊕ _) ∙ ap (λ v. v ⊕ value j i) (sym (unit-other count j i more d))) ∙ sym (next j t e g)
+
+  new-next : (t : ℕ) → i ≤ t → t < length xs → product m (inverse m (getD raised i 0)) (getD raised t 0) ≡ rowValue m xs ys count i (i + 1) t
+  new-next t e g =
+      first-value (galois-field k) [] [] (inverse m (getD raised i 0)) (getD raised t 0) (galois-field k .inv-lt _)
+      ∙ ap₂ (λ v z. z ⊕ product m (product m v (inverse m (getD raised i 0))) (getD raised t 0)) (ap₂ (λ v z. v ⊕ z) (sym (unit-own count i more)) (sym (before i))) (sym (before t))
+      ∙ sym (next i t e g)
     where
-      bounds : (getD l at 0 < size m) × (getD u at 0 < size m)
-      bounds = either-lt (n .turned) l u at (rw low-at (able .low-lt i at more inside)) (rw high-at (able .high-lt i at more inside))
+      before : (t : ℕ) → rowValue m xs ys count i i t ≡ 0
+      before t = zero-word (galois-field k) (pointsIn xs ys) (unitSymbols count i) i (λ r y. unit-other count i r (omega arith) (λ e. omega arith)) _
 
-      by : (j : ℕ) → j < i + 1 → Dec (j ≡ i) → RowIn m xs rx others l′ u′ a′ b′ h′ j (rowValue m xs ys places count j (i + 1))
-      by j g (no d) =
-          let q : j < i = omega arith in
-          let ready : Ready m at xs raised l u (getD rx j 0) (getD others j 0) (rowValue m xs ys places count j i) =
+  -- the first row is L over its value, which is 1
+  first-whole : i ≡ 0 → (t : ℕ) → t < length xs → product m (inverse m (getD raised i 0)) (getD raised t 0) ≡ 1
+  unfolding after
+  first-whole z t g =
+      let one-at : (t : ℕ) → t < length xs → getD low-list t 0 ≡ 1 = λ t g. s .low-values .at t (omega arith) g ∙ ap (λ y. valueAt m xs ys (pairAfter m xs ys y .low) t) z ∙ start-low (galois-field k) _ in
+      let low : raised ≡ low-list = rw (ne-eqb (getD low-list i 0) 0 (λ e. omega (arith, one-at i inside))) in
+      ap₂ (λ y z. product m (inverse m y) z) (ap (λ y. getD y i 0) low ∙ one-at i inside) (ap (λ y. getD y t 0) low ∙ one-at t g)
+      ∙ galois-field k .mul-comm _ _ ∙ galois-field k .mul-inv 1 (galois-field k .one-lt) (λ e. omega arith)
+
+  pub whole-next : (0 < i → (t : ℕ) → i ≤ t → t < length xs → total (λ j. value j t) i ≡ 1) → (t : ℕ) → i + 1 ≤ t → t < length xs → total (λ j. rowValue m xs ys count j (i + 1) t) (i + 1) ≡ 1
+  whole-next whole t e g =
+      let share = product m (inverse m (getD raised i 0)) (getD raised t 0) in
+      ap (total (λ j. rowValue m xs ys count j (i + 1) t)) (add-one i)
+      ∙ ap₂ (λ y z. y ⊕ z) (total-as _ (λ j. value j t ⊕ product m (value j i) share) i (λ j h. sym (old-next j t (λ d. omega arith) (omega arith) g) ∙ ap (λ y. value j t ⊕ y) (galois-field k .mul-assoc _ _ _))) (sym (new-next t (omega arith) g))
+      ∙ ap (λ y. y ⊕ share) (total-sum (λ j. value j t) (λ j. product m (value j i) share) i ∙ ap (λ y. total (λ j. value j t) i ⊕ y) (total-times (galois-field k) (λ j. value j i) share i))
+      ∙ by (ℕ-discrete i 0)
+    where
+      by : Dec (i ≡ 0) → total (λ j. value j t) i ⊕ product m (total (λ j. value j i) i) (product m (inverse m (getD raised i 0)) (getD raised t 0)) ⊕ product m (inverse m (getD raised i 0)) (getD raised t 0) ≡ 1
+      by (yes z) = ap₂ (λ y w. y ⊕ product m w (product m (inverse m (getD raised i 0)) (getD raised t 0)) ⊕ product m (inverse m (getD raised i 0)) (getD raised t 0)) (ap (total (λ j. value j t)) z) (ap (total (λ j. value j i)) z) ∙ nothing-before (galois-field k) _ _ ∙ first-whole z t g
+      by (no z) =
+          ap₂ (λ y w. y ⊕ product m w (product m (inverse m (getD raised i 0)) (getD raised t 0)) ⊕ product m (inverse m (getD raised i 0)) (getD raised t 0)) (whole (omega arith) t (omega arith) g) (whole (omega arith) i (omega arith) inside)
+          ∙ one-stays (galois-field k) _ (galois-field k .mul-lt _ _)
+
+  pub rows-next : {a b l′ u′ a′ b′ : List ℕ} → Rows m xs ys count l u a b i → RowsStep m i xs raised l u a b l′ u′ a′ b′ → Rows m xs ys count l′ u′ a′ b′ (i + 1)
+  rows-next {a} {b} {l′} {u′} {a′} {b′} rows w = record { row = λ j g. by j g (ℕ-discrete j i); whole = λ _. whole-next (rows .whole) }
+    where
+      bounds : (getD l i 0 < size m) × (getD u i 0 < size m)
+      bounds = either-lt (n .turned) l u i (rw low-at (able .low-lt i i more inside)) (rw high-at (able .high-lt i i more inside))
+
+      ready : Ready m i xs raised l u value
+      ready =
           record {
-            point-lt = able .point-lt at inside;
+            inside = inside;
+            point-lt = able .point-lt;
             first-lt = bounds .0;
             second-lt = bounds .1;
-            own-lt = rw (chosen .own j (omega arith)) (able .point-lt (indexAt places j) (within j (omega arith)));
-            value-lt = able .word-lt j i at (omega arith) inside;
-            opposite = λ e. able .opposite j i q more (sym (chosen .own j (omega arith)) ∙ e);
+            value-lt = λ j h. able .word-lt j i i (omega arith) inside;
             some = not-zero;
-          } in
-          row-as (chosen .other j (omega arith) .inside)
-          (λ t y. ap (λ v. rowValue m xs ys places count j i t ⊕ product m (product m v (inverse m (getD raised at 0))) (getD raised t 0)) (sym (zero-⊕ _) ∙ ap (λ v. v ⊕ rowValue m xs ys places count j i at) (sym (unit-other count j i more (λ e. d (sym e))))) ∙ sym (next j t y))
-          (w .old j q (rowValue m xs ys places count j i) ready (rows .row j q))
-      by j g (yes d) =
-          rw d
-          (row-as (chosen .other i more .inside)
-          (λ t y. first-value (galois-field k) [] [] (inverse m (getD raised at 0)) (getD raised t 0) (galois-field k .inv-lt _)
-          ∙ ap₂ (λ v z. z ⊕ product m (product m v (inverse m (getD raised at 0))) (getD raised t 0))
-          (ap₂ (λ v z. v ⊕ z) (sym (unit-own count i more)) (sym (before at)))
-          (sym (before t))
-          ∙ sym (next i t y))
-          (w .new (chosen .own i more)))
-        where
-          before : (t : ℕ) → rowValue m xs ys places count i i t ≡ 0
-          before t = zero-word (galois-field k) (pointsOf xs ys places) (unitSymbols count i) i (λ r y. unit-other count i r (omega arith) (λ e. omega arith)) _
+            whole = λ h. rows .whole h i (omega arith) inside;
+            alone = λ j y h g. able .alone i j y more h g;
+          }
 
--- the indices of the places are indices of coordinates
-pub index-inside : {xs ys places : List ℕ} {count : ℕ} → Within xs ys places count → (j : ℕ) → j < count → indexAt places j < length xs
-index-inside w j l = let p = w .is-place j l in omega (arith, p .one, p .most)
+      by : (j : ℕ) → j < i + 1 → Dec (j ≡ i) → RowIn m xs l′ u′ (i + 1) a′ b′ j (rowValue m xs ys count j (i + 1))
+      by j g (no d) = row-as (λ t e h. old-next j t (λ z. d (sym z)) (omega arith) h) (w .old value ready (rows .row) j (omega arith))
+      by j g (yes d) = rw d (row-as (λ t e h. new-next t (omega arith) h) (w .new))

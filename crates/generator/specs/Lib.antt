@@ -1,2 +1,3 @@
 -- What the arrays of the rows hold.
+pub mod Arranged
 pub mod Rows

@@ -1,5 +1,6 @@
--- A row of the matrix while places are added: the function that is 1 at its own place and 0 at the others so far, by what it is a multiple of.
-use Prim.Native.Nat.{ℕ, _-_, _<_, _≤_}
+-- A row of the matrix while points are added: the function that is 1 at its own point and 0 at the others so far, by what it is a multiple of.
+-- The chosen points stand first in the lists of coordinates, so the row with index j is that of the point with index j.
+use Prim.Native.Nat.{ℕ, zero, suc, _+_, _<_, _≤_}
 use mathlib.Core.Path.{_≡_}
 use mathlib.Core.Bool.{cond}
 use mathlib.Core.List.{List, []}
@@ -10,130 +11,130 @@ use Rattle.field.specs.Sum.{_⊕_}
 use Rattle.field.specs.Field.{Arithmetic}
 use Rattle.field.specs.Galois.{galois, product, inverse, size}
 use Rattle.elliptic.specs.Pair.{State, after}
-use Rattle.engine.specs.Places.{valueAt, pointsOf}
+use Rattle.engine.specs.Places.{valueAt}
+use Rattle.values.specs.Values.{pointsIn}
+use Rattle.generator.specs.Arranged.{rank}
+
+-- the sum of g 0, .., g (i − 1)
+abbrev pub total : (ℕ → ℕ) → ℕ → ℕ
+total g zero = 0
+total g (suc i) = total g i ⊕ g i
 
 module _ (F : Arithmetic) where
   infixl 70 _·_
   open Arithmetic F using (q, _·_, inv)
 
-  -- (X + x)·f is a·l + b·u at every point, and f is h at the point with index o
-  pub record Row (xs l u : List ℕ) (x a b o h : ℕ) (f : ℕ → ℕ) : Type 0 where
-    pub at : (i : ℕ) → i < length xs → (getD xs i 0 ⊕ x) · f i ≡ a · getD l i 0 ⊕ b · getD u i 0
-    pub other : h ≡ f o
+  -- (X + x)·f is a·l + b·u at every point from index d on
+  pub record Row (xs l u : List ℕ) (d x a b : ℕ) (f : ℕ → ℕ) : Type 0 where
+    pub at : (t : ℕ) → d ≤ t → t < length xs → (getD xs t 0 ⊕ x) · f t ≡ a · getD l t 0 ⊕ b · getD u t 0
     pub first-lt : a < q
     pub second-lt : b < q
 
-  -- one more place, with first coordinate α, where r and s, of which r is raised, are rc and sc: the multiple of r that f gains, and then loses at the place
-  abbrev pub factor : ℕ → ℕ → ℕ → ℕ → ℕ → ℕ → ℕ → ℕ
-  factor α x rc sc a b h = cond (eqb x α) h ((a · rc ⊕ b · sc) · inv (α ⊕ x)) · inv rc
-
-  -- f with that multiple
+  -- f without the multiple of r that it has at the point with index c
   abbrev pub gained : ℕ → List ℕ → (ℕ → ℕ) → ℕ → ℕ
-  gained c r f i = f i ⊕ f c · inv (getD r c 0) · getD r i 0
-
--- the factor and the value at the other point that the row with index j has then
-abbrev pub factorAt : ℕ → ℕ → ℕ → ℕ → List ℕ → List ℕ → List ℕ → List ℕ → ℕ → ℕ
-factorAt m α rc sc rx a b h j = factor (galois m) α (getD rx j 0) rc sc (getD a j 0) (getD b j 0) (getD h j 0)
-
-abbrev pub otherAt : ℕ → ℕ → ℕ → ℕ → List ℕ → List ℕ → List ℕ → List ℕ → List ℕ → List ℕ → ℕ → ℕ
-otherAt m α rc sc rx others r a b h j = getD h j 0 ⊕ product m (factorAt m α rc sc rx a b h j) (getD r (getD others j 0) 0)
-
--- lists for so many rows, of which others are indices of values
-pub record RowLists (rx others r a b h : List ℕ) (count : ℕ) : Type 0 where
-  pub points : count ≤ length rx
-  pub indices : count ≤ length others
-  pub firsts : count ≤ length a
-  pub seconds : count ≤ length b
-  pub values : count ≤ length h
-  pub inside : (j : ℕ) → j < count → getD others j 0 < length r
-
--- the first i rows and the new one, after a place with first coordinate α where r, which is raised, is rc and the other function sc
-pub record RowsRaised (m i α rc sc : ℕ) (rx others r a b h a′ b′ h′ : List ℕ) : Type 0 where
-  pub first-size : length a′ ≡ length a
-  pub second-size : length b′ ≡ length b
-  pub other-size : length h′ ≡ length h
-  pub first : (j : ℕ) → j < i → getD a′ j 0 ≡ factorAt m α rc sc rx a b h j
-  pub second : (j : ℕ) → j < i → getD b′ j 0 ≡ getD b j 0
-  pub other : (j : ℕ) → j < i → getD h′ j 0 ≡ otherAt m α rc sc rx others r a b h j
-  pub new-first : getD a′ i 0 ≡ inverse m rc
-  pub new-second : getD b′ i 0 ≡ 0
-  pub new-other : getD h′ i 0 ≡ product m (inverse m rc) (getD r (getD others i 0) 0)
-
--- the same where L, in l, or U, in u, is raised: that which is not zero at the point with index c
-pub record RowsEither (m i c : ℕ) (xs rx others l u a b h a′ b′ h′ : List ℕ) : Type 0 where
-  pub by-high : getD l c 0 ≡ 0 → RowsRaised m i (getD xs c 0) (getD u c 0) (getD l c 0) rx others u b a h b′ a′ h′
-  pub by-low : (getD l c 0 ≡ 0 → ⊥) → RowsRaised m i (getD xs c 0) (getD l c 0) (getD u c 0) rx others l a b h a′ b′ h′
+  gained c r f t = f t ⊕ f c · inv (getD r c 0) · getD r t 0
 
 -- the row with index j in the arrays of all rows
-abbrev pub RowIn : ℕ → List ℕ → List ℕ → List ℕ → List ℕ → List ℕ → List ℕ → List ℕ → List ℕ → ℕ → (ℕ → ℕ) → Type 0
-RowIn m xs rx others l u a b h j f = Row (galois m) xs l u (getD rx j 0) (getD a j 0) (getD b j 0) (getD others j 0) (getD h j 0) f
+abbrev pub RowIn : ℕ → List ℕ → List ℕ → List ℕ → ℕ → List ℕ → List ℕ → ℕ → (ℕ → ℕ) → Type 0
+RowIn m xs l u d a b j f = Row (galois m) xs l u d (getD xs j 0) (getD a j 0) (getD b j 0) f
 
--- the function that a step with the point at index c raises
-abbrev pub raisedOf : ℕ → List ℕ → List ℕ → List ℕ
-raisedOf c l u = cond (eqb (getD l c 0) 0) u l
+-- ---- one more point, with first coordinate α, where the function that is raised is rc and the other t·rc
 
--- what the functions have to be at the point with index c, where r is raised
-pub record Ready (m c : ℕ) (xs r l u : List ℕ) (x o : ℕ) (f : ℕ → ℕ) : Type 0 where
-  pub point-lt : getD xs c 0 < size m
-  pub first-lt : getD l c 0 < size m
-  pub second-lt : getD u c 0 < size m
-  pub own-lt : x < size m
-  pub value-lt : f c < size m
-  pub opposite : x ≡ getD xs c 0 → o ≡ c
-  pub some : getD r c 0 ≡ 0 → ⊥
+-- the multiple of the raised function that a row has there, unless its own coordinate is α too
+abbrev pub multipleAt : ℕ → ℕ → ℕ → List ℕ → List ℕ → List ℕ → ℕ → ℕ
+multipleAt m α t xs a b j = product m (getD a j 0 ⊕ product m t (getD b j 0)) (inverse m (α ⊕ getD xs j 0))
 
--- a step with the point at index c, where r is raised: every row stays a row, without the multiple of r that it had there, and there is one more
-pub record RowsStep (m i c : ℕ) (xs rx others r l u a b h l′ u′ a′ b′ h′ : List ℕ) : Type 0 where
+-- o is the index of one of the first i rows whose coordinate is α, and i where there is none
+pub record Over (xs : List ℕ) (i α o : ℕ) : Type 0 where
+  pub most : o ≤ i
+  pub hit : o < i → getD xs o 0 ≡ α
+  pub seen : (j : ℕ) → j < i → getD xs j 0 ≡ α → o < i
+
+-- the first i rows and the new one, that of the point with index i. All rows together are 1 everywhere, which gives the one over α
+pub record RowsRaised (m i rc t : ℕ) (xs a b a′ b′ : List ℕ) : Type 0 where
   pub first-size : length a′ ≡ length a
   pub second-size : length b′ ≡ length b
-  pub other-size : length h′ ≡ length h
-  pub old : (j : ℕ) → j < i → (f : ℕ → ℕ) → Ready m c xs r l u (getD rx j 0) (getD others j 0) f → RowIn m xs rx others l u a b h j f
-      → RowIn m xs rx others l′ u′ a′ b′ h′ j (gained (galois m) c r f)
-  pub new : getD rx i 0 ≡ getD xs c 0 → RowIn m xs rx others l′ u′ a′ b′ h′ i (λ t. product m (inverse m (getD r c 0)) (getD r t 0))
+  pub away : (j : ℕ) → j < i → (getD xs j 0 ≡ getD xs i 0 → ⊥) → getD a′ j 0 ≡ multipleAt m (getD xs i 0) t xs a b j
+  pub over : (j : ℕ) → j < i → getD xs j 0 ≡ getD xs i 0 → ((k : ℕ) → k < i → getD xs k 0 ≡ getD xs i 0 → k ≡ j)
+      → getD a′ j 0 ≡ inverse m rc ⊕ total (multipleAt m (getD xs i 0) t xs a b) i
+  pub second : (j : ℕ) → j < i → getD b′ j 0 ≡ getD b j 0
+  pub new-first : getD a′ i 0 ≡ inverse m rc
+  pub new-second : getD b′ i 0 ≡ 0
 
--- the value of a row's function at the point with index i, by its factors: 1 at its own point, with index c
-abbrev pub entryAt : ℕ → List ℕ → List ℕ → List ℕ → ℕ → ℕ → ℕ → ℕ → ℕ → ℕ → ℕ
-entryAt m xs l u x c a b h i =
-    cond (eqb (getD xs i 0) x) (cond (eqb i c) 1 h)
-    (product m (product m a (getD l i 0) ⊕ product m b (getD u i 0)) (inverse m (getD xs i 0 ⊕ x)))
+-- the same where L, in l, or U, in u, is raised: that which is not zero at the point
+pub record RowsEither (m i : ℕ) (xs l u a b a′ b′ : List ℕ) : Type 0 where
+  pub by-high : getD l i 0 ≡ 0 → RowsRaised m i (getD u i 0) 0 xs b a b′ a′
+  pub by-low : (getD l i 0 ≡ 0 → ⊥) → RowsRaised m i (getD l i 0) (product m (getD u i 0) (inverse m (getD l i 0))) xs a b a′ b′
 
--- the symbols of the row with index j: 1 at its own place and 0 at the others
+-- the function that a step with the point at index i raises
+abbrev pub raisedOf : ℕ → List ℕ → List ℕ → List ℕ
+raisedOf i l u = cond (eqb (getD l i 0) 0) u l
+
+-- what the rows' functions have to be at the point with index i, where r is raised
+pub record Ready (m i : ℕ) (xs r l u : List ℕ) (f : ℕ → ℕ → ℕ) : Type 0 where
+  pub inside : i < length xs
+  pub point-lt : (j : ℕ) → j < length xs → getD xs j 0 < size m
+  pub first-lt : getD l i 0 < size m
+  pub second-lt : getD u i 0 < size m
+  pub value-lt : (j : ℕ) → j < i → f j i < size m
+  pub some : getD r i 0 ≡ 0 → ⊥
+  pub whole : 0 < i → total (λ j. f j i) i ≡ 1
+  pub alone : (j k : ℕ) → j < i → k < i → getD xs j 0 ≡ getD xs i 0 → getD xs k 0 ≡ getD xs i 0 → k ≡ j
+
+-- a step with the point at index i, where r is raised: every row stays a row, without the multiple of r that it had there, and there is one more
+pub record RowsStep (m i : ℕ) (xs r l u a b l′ u′ a′ b′ : List ℕ) : Type 0 where
+  pub first-size : length a′ ≡ length a
+  pub second-size : length b′ ≡ length b
+  pub old : (f : ℕ → ℕ → ℕ) → Ready m i xs r l u f → ((j : ℕ) → j < i → RowIn m xs l u i a b j (f j))
+      → (j : ℕ) → j < i → RowIn m xs l′ u′ (i + 1) a′ b′ j (gained (galois m) i r (f j))
+  pub new : RowIn m xs l′ u′ (i + 1) a′ b′ i (λ t. product m (inverse m (getD r i 0)) (getD r t 0))
+
+-- room for so many rows
+pub record RowLists (xs a b : List ℕ) (count : ℕ) : Type 0 where
+  pub points : count ≤ length xs
+  pub firsts : count ≤ length a
+  pub seconds : count ≤ length b
+
+-- ---- the entries
+
+-- the value of row j at a point with first coordinate α where L and U are v and w, unless its own coordinate is α too
+abbrev pub quotientAt : ℕ → ℕ → ℕ → ℕ → List ℕ → List ℕ → List ℕ → ℕ → ℕ
+quotientAt m α v w xs a b j = product m (product m (getD a j 0) v ⊕ product m (getD b j 0) w) (inverse m (α ⊕ getD xs j 0))
+
+-- its value at the point with index s: where both have the same first coordinate, it is what the other rows leave of 1
+abbrev pub entryAt : ℕ → List ℕ → List ℕ → List ℕ → List ℕ → List ℕ → ℕ → ℕ → ℕ → ℕ
+entryAt m xs l u a b count j s =
+    let value = quotientAt m (getD xs s 0) (getD l s 0) (getD u s 0) xs a b in
+    cond (eqb (getD xs s 0) (getD xs j 0)) (1 ⊕ total value count) (value j)
+
+-- ---- the rows are the words of the unit messages
+
+-- the symbols of the row with index j: 1 at its own point and 0 at the others
 abbrev pub unitSymbols : ℕ → ℕ → List ℕ
 unitSymbols count j = table (λ t. cond (eqb t j) 1 0) count
 
--- the index of the i-th place
-abbrev pub indexAt : List ℕ → ℕ → ℕ
-indexAt places i = getD places i 0 - 1
-
--- o is the index of another point over the first coordinate of that with index c, or c itself where there is none
-pub record Other (xs : List ℕ) (c o : ℕ) : Type 0 where
-  pub inside : o < length xs
-  pub over : getD xs o 0 ≡ getD xs c 0
-  pub found : (i : ℕ) → i < length xs → getD xs i 0 ≡ getD xs c 0 → (i ≡ c → ⊥) → o ≡ c → ⊥
-
--- the first coordinates of the first places, and the others
-pub record Chosen (xs places rx others : List ℕ) (count : ℕ) : Type 0 where
-  pub own : (j : ℕ) → j < count → getD rx j 0 ≡ getD xs (indexAt places j) 0
-  pub other : (j : ℕ) → j < count → Other xs (indexAt places j) (getD others j 0)
-
-module _ (m : ℕ) (xs ys places : List ℕ) where
-  -- the state after i places, with the symbols of the row with index j of so many
-  abbrev pub rowState : ℕ → ℕ → ℕ → State
-  rowState count j i = after (galois m) (pointsOf xs ys places) (unitSymbols count j) i
+module _ (m : ℕ) (xs ys : List ℕ) where
+  -- the pair of the first i points, and the word of the row with index j of so many
+  abbrev pub pairAfter : ℕ → State
+  pairAfter i = after (galois m) (pointsIn xs ys) [] i
 
   abbrev pub rowValue : ℕ → ℕ → ℕ → ℕ → ℕ
-  rowValue count j i t = valueAt m xs ys (rowState count j i .word) t
+  rowValue count j i t = valueAt m xs ys (after (galois m) (pointsIn xs ys) (unitSymbols count j) i .word) t
 
   -- what the theory says of different points of a curve
-  pub record Able (others : List ℕ) (count : ℕ) : Type 0 where
+  pub record Able (count : ℕ) : Type 0 where
     pub point-lt : (t : ℕ) → t < length xs → getD xs t 0 < size m
-    pub low-lt : (i t : ℕ) → i < count → t < length xs → valueAt m xs ys (after (galois m) (pointsOf xs ys places) [] i .low) t < size m
-    pub high-lt : (i t : ℕ) → i < count → t < length xs → valueAt m xs ys (after (galois m) (pointsOf xs ys places) [] i .high) t < size m
+    pub low-lt : (i t : ℕ) → i < count → t < length xs → valueAt m xs ys (pairAfter i .low) t < size m
+    pub high-lt : (i t : ℕ) → i < count → t < length xs → valueAt m xs ys (pairAfter i .high) t < size m
     pub word-lt : (j i t : ℕ) → i ≤ count → t < length xs → rowValue count j i t < size m
-    pub some : (i : ℕ) → i < count → valueAt m xs ys (after (galois m) (pointsOf xs ys places) [] i .low) (indexAt places i) ≡ 0
-        → valueAt m xs ys (after (galois m) (pointsOf xs ys places) [] i .high) (indexAt places i) ≡ 0 → ⊥
-    pub opposite : (j i : ℕ) → j < i → i < count → getD xs (indexAt places j) 0 ≡ getD xs (indexAt places i) 0 → getD others j 0 ≡ indexAt places i
+    pub some : (i : ℕ) → i < count → valueAt m xs ys (pairAfter i .low) i ≡ 0 → valueAt m xs ys (pairAfter i .high) i ≡ 0 → ⊥
+    pub alone : (i j k : ℕ) → i < count → j < i → k < i → getD xs j 0 ≡ getD xs i 0 → getD xs k 0 ≡ getD xs i 0 → k ≡ j
 
-  -- the first i rows of so many, in the arrays
-  pub record Rows (rx others : List ℕ) (count : ℕ) (l u a b h : List ℕ) (i : ℕ) : Type 0 where
-    pub row : (j : ℕ) → j < i → RowIn m xs rx others l u a b h j (rowValue count j i)
+  -- the first i rows of so many, in the arrays; together they are 1
+  pub record Rows (count : ℕ) (l u a b : List ℕ) (i : ℕ) : Type 0 where
+    pub row : (j : ℕ) → j < i → RowIn m xs l u i a b j (rowValue count j i)
+    pub whole : 0 < i → (t : ℕ) → i ≤ t → t < length xs → total (λ j. rowValue count j i t) i ≡ 1
+
+-- the symbol at index t of a row whose entries at the free points, which stand behind the first count, are g
+abbrev pub symbolAt : ℕ → List ℕ → (ℕ → ℕ) → ℕ → ℕ
+symbolAt count free g t = cond (eqb (getD free t 0) 0) 0 (g (count + rank (λ i. getD free i 0) t))

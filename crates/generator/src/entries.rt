@@ -1,66 +1,110 @@
 // The entries of a row of the matrix, by its factors.
-use field::logarithm;
-use field::product_by_log;
+use field::product;
 use field::quotient;
 ghost use mathlib.Core.Path.{_≡_};
-ghost use mathlib.Core.Bool.{cond};
-ghost use Prim.Native.Nat.{_≤_};
-ghost use lib.Dec.{eqb};
-ghost use lib.ListN.{length};
+ghost use Prim.Native.Nat.{_+_, _<_, _≤_};
+ghost use lib.ListN.{length, getD, set};
 ghost use Rattle.basics.specs.Lists.{table};
-ghost use Rattle.field.specs.Galois.{product, inverse};
-ghost use Rattle.field.specs.Sum.{_⊕_};
 ghost use Rattle.field.specs.Tables.{Tables};
-ghost use Rattle.generator.specs.Rows.{entryAt};
+ghost use Rattle.generator.specs.Arranged.{rank};
+ghost use Rattle.generator.specs.Rows.{RowLists, total, quotientAt, entryAt, symbolAt};
 
-// The entry at index i, where the first coordinate is xi and (X + x)·f is the sum.
+fn wide(x: u8) -> usize
+    ensures { λ r. ⌜ r ≡ x ⌝ }
+{
+    x as usize
+}
+
+// The sum of the rows at a point where L and U are v and w, but for the row over its coordinate.
+fn column_sum(
+    m: u8,
+    powers: &[u8; 255],
+    logs: &[u8; 256],
+    alpha: u8,
+    v: u8,
+    w: u8,
+    count: usize,
+    xs: &[u8],
+    a: &[u8],
+    b: &[u8],
+) -> u8
+    requires { ⌜ Tables m (now powers) (now logs) ⌝ }
+    requires { ⌜ RowLists (now xs) (now a) (now b) count × (length (now xs) ≤ 288) ⌝ }
+    ensures { λ r. ⌜ r ≡ total (quotientAt m alpha v w (now (xs .entry)) (now (a .entry)) (now (b .entry))) count ⌝ }
+{
+    let mut sum = 0u8;
+    let mut j = 0;
+    while j < count {
+        let top = product(m, powers, logs, a[j], v) ^ product(m, powers, logs, b[j], w);
+        sum = sum ^ quotient(m, powers, logs, top, alpha ^ xs[j]);
+        j += 1;
+    }
+    sum
+}
+
+// The entry of row j at the point with index s.
 fn entry(
     m: u8,
     powers: &[u8; 255],
     logs: &[u8; 256],
-    x: u8,
-    c: usize,
-    h: u8,
-    i: usize,
-    xi: u8,
-    sum: u8,
+    j: usize,
+    s: usize,
+    count: usize,
+    xs: &[u8],
+    l: &[u8],
+    u: &[u8],
+    a: &[u8],
+    b: &[u8],
 ) -> u8
     requires { ⌜ Tables m (now powers) (now logs) ⌝ }
-    ensures { λ r. ⌜ r ≡ cond (eqb xi x) (cond (eqb i c) 1 h) (product m sum (inverse m (xi ⊕ x))) ⌝ }
+    requires { ⌜ RowLists (now xs) (now a) (now b) count × (length (now l) ≡ length (now xs)) × (length (now u) ≡ length (now xs)) × (length (now xs) ≤ 288) ⌝ }
+    requires { ⌜ (j < count) × (s < length (now xs)) ⌝ }
+    ensures { λ r. ⌜ r ≡ entryAt m (now (xs .entry)) (now (l .entry)) (now (u .entry)) (now (a .entry)) (now (b .entry)) count j s ⌝ }
 {
-    if xi == x {
-        return if i == c { 1 } else { h };
+    let x = xs[j];
+    let alpha = xs[s];
+    let v = l[s];
+    let w = u[s];
+    if alpha == x {
+        return 1 ^ column_sum(m, powers, logs, alpha, v, w, count, xs, a, b);
     }
-    quotient(m, powers, logs, sum, xi ^ x)
+    let top = product(m, powers, logs, a[j], v) ^ product(m, powers, logs, b[j], w);
+    quotient(m, powers, logs, top, alpha ^ x)
 }
 
-// The entries of the row of the point with index c and first coordinate x.
+// The symbols of row j, whose own place has the index c. The points that are not chosen stand behind the first count, in their order.
 pub fn fill_row(
     m: u8,
     powers: &[u8; 255],
     logs: &[u8; 256],
-    x: u8,
+    j: usize,
     c: usize,
-    a: u8,
-    b: u8,
-    h: u8,
+    count: usize,
+    free: &[u8],
     xs: &[u8],
     l: &[u8],
     u: &[u8],
+    a: &[u8],
+    b: &[u8],
     row: &mut [u8],
 )
     requires { ⌜ Tables m (now powers) (now logs) ⌝ }
-    requires { ⌜ (length (now l) ≡ length (now xs)) × (length (now u) ≡ length (now xs)) × (length (now row) ≡ length (now xs)) × (length (now xs) ≤ 288) ⌝ }
-    ensures { λ _. ⌜ now (row .exit) ≡ table (entryAt m (now (xs .entry)) (now (l .entry)) (now (u .entry)) x c a b h) (length (now (xs .entry))) ⌝ }
+    requires { ⌜ RowLists (now xs) (now a) (now b) count × (length (now l) ≡ length (now xs)) × (length (now u) ≡ length (now xs)) × (length (now xs) ≤ 288) ⌝ }
+    requires { ⌜ (j < count) × (c < length (now row)) × (length (now row) ≡ length (now xs)) × (length (now free) ≡ length (now xs))
+        × (count + rank (λ i. getD (now free) i 0) (length (now xs)) ≤ length (now xs)) ⌝ }
+    ensures { λ _. ⌜ now (row .exit) ≡ set (table (symbolAt count (now (free .entry)) (entryAt m (now (xs .entry)) (now (l .entry)) (now (u .entry)) (now (a .entry)) (now (b .entry)) count j)) (length (now (xs .entry)))) c 1 ⌝ }
 {
-    let by_a = logarithm(m, logs, a);
-    let by_b = logarithm(m, logs, b);
-    let n = row.len();
+    let mut s = count;
     let mut i = 0;
-    while i < n {
-        let sum = product_by_log(m, powers, logs, by_a, l[i])
-            ^ product_by_log(m, powers, logs, by_b, u[i]);
-        row[i] = entry(m, powers, logs, x, c, h, i, xs[i], sum);
+    while i < row.len() {
+        let f = free[i];
+        if f == 0 {
+            row[i] = 0;
+        } else {
+            row[i] = entry(m, powers, logs, j, s, count, xs, l, u, a, b);
+        }
+        s += wide(f);
         i += 1;
     }
+    row[c] = 1;
 }

@@ -1,189 +1,138 @@
-// The rows of the matrix while places are added: of each row's function f the factors a and b for which (X + x)·f is a·l + b·u at every point,
-// and the value of f at the other point over x. So a place costs a few products a row, whatever the number of points.
+// The rows of the matrix while points are added: of each row's function f the factors a and b for which (X + x)·f is a·l + b·u at the points still to
+// come. So a point costs two products a row, whatever the number of points.
 use engine::pair::Sizes;
 use engine::pair::swapped;
 use field::inverse;
-use field::product;
+use field::logarithm;
+use field::product_by_log;
 use field::quotient;
 use values::pair::pair_step;
 ghost use mathlib.Core.Path.{_≡_};
 ghost use mathlib.Core.Bool.{cond};
-ghost use Prim.Native.Nat.{_+_, _<_};
-ghost use lib.ListN.{length, getD, set};
-ghost use Rattle.field.specs.Galois.{galois, product as times, inverse as inverseOf};
+ghost use Prim.Native.Nat.{_+_, _<_, _≤_};
+ghost use lib.ListN.{length, getD};
 ghost use Rattle.field.specs.Tables.{Tables};
 ghost use Rattle.values.specs.Values.{Sweeping, Steps, Fits};
-ghost use Rattle.generator.specs.Rows.{factor as factorOf, factorAt, otherAt, RowLists, RowsRaised, RowsEither, RowsStep, raisedOf};
+ghost use Rattle.generator.specs.Rows.{total, multipleAt, Over, RowLists, RowsRaised, RowsEither, RowsStep, raisedOf};
 
-fn wide(i: u16) -> usize
-    ensures { λ r. ⌜ r ≡ i ⌝ }
-{
-    i as usize
-}
-
-// The multiple of the raised function that a row gains.
-fn factor(
+// The multiples of the raised function that the first rows have at a point, each in place of its factor, and their sum.
+fn take_multiples(
     m: u8,
     powers: &[u8; 255],
     logs: &[u8; 256],
     alpha: u8,
-    x: u8,
-    rc: u8,
-    sc: u8,
-    a: u8,
-    b: u8,
-    h: u8,
-) -> u8
-    requires { ⌜ Tables m (now powers) (now logs) ⌝ }
-    ensures { λ r. ⌜ r ≡ factorOf (galois m) alpha x rc sc a b h ⌝ }
-{
-    if x == alpha {
-        return quotient(m, powers, logs, h, rc);
-    }
-    let sum = product(m, powers, logs, a, rc) ^ product(m, powers, logs, b, sc);
-    let v = quotient(m, powers, logs, sum, alpha ^ x);
-    quotient(m, powers, logs, v, rc)
-}
-
-// The first rows with one more place, where r, which is raised, is rc and the other function sc.
-pub fn update_rows(
-    m: u8,
-    powers: &[u8; 255],
-    logs: &[u8; 256],
-    alpha: u8,
-    rc: u8,
-    sc: u8,
+    t: u8,
     count: usize,
-    rx: &[u8],
-    others: &[u16],
-    r: &[u8],
+    xs: &[u8],
     a: &mut [u8],
     b: &[u8],
-    h: &mut [u8],
-)
+) -> u8
     requires { ⌜ Tables m (now powers) (now logs) ⌝ }
-    requires { ⌜ RowLists (now rx) (now others) (now r) (now a) (now b) (now h) count ⌝ }
-    ensures { λ _. ⌜ Sweeping (factorAt m alpha rc sc (now (rx .entry)) (now (a .entry)) (now (b .entry)) (now (h .entry))) 0 count (now (a .entry)) (now (a .exit))
-        × Sweeping (otherAt m alpha rc sc (now (rx .entry)) (now (others .entry)) (now (r .entry)) (now (a .entry)) (now (b .entry)) (now (h .entry))) 0 count
-        (now (h .entry)) (now (h .exit)) ⌝ }
+    requires { ⌜ RowLists (now xs) (now a) (now b) count × (length (now xs) ≤ 288) ⌝ }
+    ensures { λ r. ⌜ Sweeping (multipleAt m alpha t (now (xs .entry)) (now (a .entry)) (now (b .entry))) 0 count (now (a .entry)) (now (a .exit))
+        × (r ≡ total (multipleAt m alpha t (now (xs .entry)) (now (a .entry)) (now (b .entry))) count) ⌝ }
 {
+    let by_t = logarithm(m, logs, t);
+    let mut sum = 0u8;
     let mut j = 0;
     while j < count {
-        let e = factor(m, powers, logs, alpha, rx[j], rc, sc, a[j], b[j], h[j]);
-        let o = others[j];
-        h[j] = h[j] ^ product(m, powers, logs, e, r[wide(o)]);
+        let top = a[j] ^ product_by_log(m, powers, logs, by_t, b[j]);
+        let e = quotient(m, powers, logs, top, alpha ^ xs[j]);
         a[j] = e;
+        sum = sum ^ e;
         j += 1;
     }
+    sum
 }
 
-// The row of a new place, where r, which is raised, is rc, and its value at the other point, with index o.
-fn new_row(
+// The index of one of the first rows whose coordinate is alpha, or their number.
+fn find_over(xs: &[u8], count: usize, alpha: u8) -> usize
+    requires { ⌜ (count ≤ length (now xs)) × (length (now xs) ≤ 288) ⌝ }
+    ensures { λ r. ⌜ Over (now (xs .entry)) count alpha r ⌝ }
+{
+    let mut o = count;
+    let mut j = 0;
+    while j < count {
+        if xs[j] == alpha {
+            o = j;
+        }
+        j += 1;
+    }
+    o
+}
+
+// The first i rows with one more point, and its own row, where the function that is raised is rc and the other t·rc.
+fn raise_rows(
     m: u8,
     powers: &[u8; 255],
     logs: &[u8; 256],
     i: usize,
     rc: u8,
-    o: usize,
-    r: &[u8],
+    t: u8,
+    xs: &[u8],
     a: &mut [u8],
     b: &mut [u8],
-    h: &mut [u8],
 )
     requires { ⌜ Tables m (now powers) (now logs) ⌝ }
-    requires { ⌜ (i < length (now a)) × (i < length (now b)) × (i < length (now h)) × (o < length (now r)) ⌝ }
-    ensures { λ _. ⌜ (now (a .exit) ≡ set (now (a .entry)) i (inverseOf m rc)) × (now (b .exit) ≡ set (now (b .entry)) i 0)
-        × (now (h .exit) ≡ set (now (h .entry)) i (times m (inverseOf m rc) (getD (now (r .entry)) o 0))) ⌝ }
+    requires { ⌜ RowLists (now xs) (now a) (now b) (i + 1) × (length (now xs) ≤ 288) ⌝ }
+    ensures { λ _. ⌜ RowsRaised m i rc t (now (xs .entry)) (now (a .entry)) (now (b .entry)) (now (a .exit)) (now (b .exit)) ⌝ }
 {
-    let e = inverse(m, powers, logs, rc);
-    a[i] = e;
+    let alpha = xs[i];
+    let own = inverse(m, powers, logs, rc);
+    let sum = take_multiples(m, powers, logs, alpha, t, i, xs, a, b);
+    let o = find_over(xs, i, alpha);
+    a[o] = own ^ sum;
+    a[i] = own;
     b[i] = 0;
-    h[i] = product(m, powers, logs, e, r[o]);
 }
 
-// The first i rows with one more place, and its own row.
-pub fn raise_rows(
-    m: u8,
-    powers: &[u8; 255],
-    logs: &[u8; 256],
-    i: usize,
-    alpha: u8,
-    rc: u8,
-    sc: u8,
-    rx: &[u8],
-    others: &[u16],
-    r: &[u8],
-    a: &mut [u8],
-    b: &mut [u8],
-    h: &mut [u8],
-)
-    requires { ⌜ Tables m (now powers) (now logs) ⌝ }
-    requires { ⌜ RowLists (now rx) (now others) (now r) (now a) (now b) (now h) (i + 1) ⌝ }
-    ensures { λ _. ⌜ RowsRaised m i alpha rc sc (now (rx .entry)) (now (others .entry)) (now (r .entry)) (now (a .entry)) (now (b .entry)) (now (h .entry))
-        (now (a .exit)) (now (b .exit)) (now (h .exit)) ⌝ }
-{
-    update_rows(m, powers, logs, alpha, rc, sc, i, rx, others, r, a, b, h);
-    let o = others[i];
-    new_row(m, powers, logs, i, rc, wide(o), r, a, b, h);
-}
-
-// The first i rows with one more place, the one with index c, and its own row, before L, in l, and U, in u, change.
+// The first i rows with one more point, and its own row, before L, in l, and U, in u, change.
 fn raise_either(
     m: u8,
     powers: &[u8; 255],
     logs: &[u8; 256],
     i: usize,
-    c: usize,
     xs: &[u8],
-    rx: &[u8],
-    others: &[u16],
     l: &[u8],
     u: &[u8],
     a: &mut [u8],
     b: &mut [u8],
-    h: &mut [u8],
 )
     requires { ⌜ Tables m (now powers) (now logs) ⌝ }
-    requires { ⌜ (c < length (now xs)) × (length (now l) ≡ length (now xs)) × (length (now u) ≡ length (now xs))
-        × RowLists (now rx) (now others) (now xs) (now a) (now b) (now h) (i + 1) ⌝ }
-    ensures { λ _. ⌜ RowsEither m i c (now (xs .entry)) (now (rx .entry)) (now (others .entry)) (now (l .entry)) (now (u .entry)) (now (a .entry)) (now (b .entry)) (now (h .entry))
-        (now (a .exit)) (now (b .exit)) (now (h .exit)) ⌝ }
+    requires { ⌜ (length (now l) ≡ length (now xs)) × (length (now u) ≡ length (now xs)) × RowLists (now xs) (now a) (now b) (i + 1) × (length (now xs) ≤ 288) ⌝ }
+    ensures { λ _. ⌜ RowsEither m i (now (xs .entry)) (now (l .entry)) (now (u .entry)) (now (a .entry)) (now (b .entry)) (now (a .exit)) (now (b .exit)) ⌝ }
 {
-    let alpha = xs[c];
-    let lc = l[c];
-    let uc = u[c];
-    if lc == 0 {
-        raise_rows(m, powers, logs, i, alpha, uc, lc, rx, others, u, b, a, h);
+    let low = l[i];
+    let high = u[i];
+    if low == 0 {
+        raise_rows(m, powers, logs, i, high, 0, xs, b, a);
         return;
     }
-    raise_rows(m, powers, logs, i, alpha, lc, uc, rx, others, l, a, b, h);
+    let t = quotient(m, powers, logs, high, low);
+    raise_rows(m, powers, logs, i, low, t, xs, a, b);
 }
 
-// The first i rows with one more place, the one with index c: L is in l and U in u.
-pub fn rows_step(
+// The first i rows with one more point: L is in l and U in u.
+fn rows_step(
     m: u8,
     powers: &[u8; 255],
     logs: &[u8; 256],
     i: usize,
-    c: usize,
     xs: &[u8],
-    rx: &[u8],
-    others: &[u16],
     l: &mut [u8],
     u: &mut [u8],
     a: &mut [u8],
     b: &mut [u8],
-    h: &mut [u8],
     n: Sizes,
 ) -> Sizes
     requires { ⌜ Tables m (now powers) (now logs) ⌝ }
-    requires { ⌜ (c < length (now xs)) × Fits (now xs) (now l) (now u) n × RowLists (now rx) (now others) (now xs) (now a) (now b) (now h) (i + 1) ⌝ }
-    ensures { λ r. ⌜ Steps m (now (xs .entry)) c 0 (now (l .entry)) (now (u .entry)) (n .low) (n .high) (now (l .exit)) (now (u .exit)) r
-        × RowsStep m i c (now (xs .entry)) (now (rx .entry)) (now (others .entry)) (raisedOf c (now (l .entry)) (now (u .entry))) (now (l .entry)) (now (u .entry)) (now (a .entry)) (now (b .entry)) (now (h .entry))
-        (now (l .exit)) (now (u .exit)) (now (a .exit)) (now (b .exit)) (now (h .exit)) ⌝ }
+    requires { ⌜ Fits (now xs) (now l) (now u) n × RowLists (now xs) (now a) (now b) (i + 1) × (length (now xs) ≤ 288) ⌝ }
+    ensures { λ r. ⌜ Steps m (now (xs .entry)) i (i + 1) (now (l .entry)) (now (u .entry)) (n .low) (n .high) (now (l .exit)) (now (u .exit)) r
+        × RowsStep m i (now (xs .entry)) (raisedOf i (now (l .entry)) (now (u .entry))) (now (l .entry)) (now (u .entry)) (now (a .entry)) (now (b .entry))
+        (now (l .exit)) (now (u .exit)) (now (a .exit)) (now (b .exit)) ⌝ }
 {
-    raise_either(m, powers, logs, i, c, xs, rx, others, l, u, a, b, h);
-    pair_step(m, powers, logs, c, 0, xs, l, u, n)
+    raise_either(m, powers, logs, i, xs, l, u, a, b);
+    pair_step(m, powers, logs, i, i + 1, xs, l, u, n)
 }
 
 // The same, with L and U in either array.
@@ -192,28 +141,23 @@ pub fn rows_turn(
     powers: &[u8; 255],
     logs: &[u8; 256],
     i: usize,
-    c: usize,
     xs: &[u8],
-    rx: &[u8],
-    others: &[u16],
     l: &mut [u8],
     u: &mut [u8],
     a: &mut [u8],
     b: &mut [u8],
-    h: &mut [u8],
     n: Sizes,
 ) -> Sizes
     requires { ⌜ Tables m (now powers) (now logs) ⌝ }
-    requires { ⌜ (c < length (now xs)) × Fits (now xs) (now l) (now u) n × RowLists (now rx) (now others) (now xs) (now a) (now b) (now h) (i + 1) ⌝ }
-    ensures { λ r. ⌜ Steps m (now (xs .entry)) c 0 (cond (n .turned) (now (u .entry)) (now (l .entry))) (cond (n .turned) (now (l .entry)) (now (u .entry))) (n .low) (n .high)
+    requires { ⌜ Fits (now xs) (now l) (now u) n × RowLists (now xs) (now a) (now b) (i + 1) × (length (now xs) ≤ 288) ⌝ }
+    ensures { λ r. ⌜ Steps m (now (xs .entry)) i (i + 1) (cond (n .turned) (now (u .entry)) (now (l .entry))) (cond (n .turned) (now (l .entry)) (now (u .entry))) (n .low) (n .high)
         (now (l .exit)) (now (u .exit)) r
-        × RowsStep m i c (now (xs .entry)) (now (rx .entry)) (now (others .entry))
-        (raisedOf c (cond (n .turned) (now (u .entry)) (now (l .entry))) (cond (n .turned) (now (l .entry)) (now (u .entry))))
-        (now (l .entry)) (now (u .entry)) (now (a .entry)) (now (b .entry)) (now (h .entry)) (now (l .exit)) (now (u .exit)) (now (a .exit)) (now (b .exit)) (now (h .exit)) ⌝ }
+        × RowsStep m i (now (xs .entry)) (raisedOf i (cond (n .turned) (now (u .entry)) (now (l .entry))) (cond (n .turned) (now (l .entry)) (now (u .entry))))
+        (now (l .entry)) (now (u .entry)) (now (a .entry)) (now (b .entry)) (now (l .exit)) (now (u .exit)) (now (a .exit)) (now (b .exit)) ⌝ }
 {
     let turned = n.turned;
     if turned {
-        return swapped(rows_step(m, powers, logs, i, c, xs, rx, others, u, l, b, a, h, n));
+        return swapped(rows_step(m, powers, logs, i, xs, u, l, b, a, n));
     }
-    rows_step(m, powers, logs, i, c, xs, rx, others, l, u, a, b, h, n)
+    rows_step(m, powers, logs, i, xs, l, u, a, b, n)
 }

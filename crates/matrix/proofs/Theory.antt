@@ -1,17 +1,19 @@
--- What the theory says of a usable choice is what the rows need: values below q, no place where L and U are both zero, and no third point over one coordinate.
+-- What the theory says of a choice is what the rows need: values below q, no place where L and U are both zero, and no third point over one coordinate.
 -- So the entries that the factors give are the codewords of the unit messages.
-use Prim.Native.Nat.{ℕ, zero, suc, _-_, _<_, _≤_}
-use mathlib.Core.Path.{_≡_, refl, sym, _∙_, ap}
-use mathlib.Core.Bool.{true, false, cond}
+use Prim.Native.Nat.{ℕ, zero, suc, _+_, _-_, _<_, _≤_}
+use mathlib.Core.Path.{_≡_, refl, sym, _∙_, ap, ap₂}
+use mathlib.Core.Bool.{Bool, true, false, cond, not}
+use mathlib.Core.Logic.{_⊎_, inl, inr}
 use mathlib.Core.List.{List, [], _∷_, map}
 use native.Mathlib.Decide.{decLt, ℕ-discrete}
 use native.Mathlib.Nat.{not-suc-le-zero, le-of-suc-le-suc}
 use native.Mathlib.Omega.{arith}
-use borrow.Author.Tests.{eqb-false, eq-eqb, not-true}
+use borrow.Author.Tests.{eqb-false, eq-eqb, ne-eqb, not-true}
 use lib.Dec.{eqb}
-use lib.ListN.{length, getD, length-map}
+use lib.ListN.{length, getD, set, length-set, length-map}
+use lib.Seq.{getD-set-same, getD-set-other}
 use Rattle.basics.specs.Lists.{table, different}
-use Rattle.basics.proofs.Lists.{table-as, length-table, getD-table, different-get}
+use Rattle.basics.proofs.Lists.{both-left, table-as, is-table, length-table, getD-table, different-get}
 use Rattle.field.specs.Sum.{_⊕_}
 use Rattle.field.proofs.Sum.{⊕-self}
 use Rattle.field.specs.Field.{Arithmetic, Field}
@@ -27,21 +29,29 @@ use Rattle.elliptic.proofs.Function.{Zero, Lead.top, Lead.low, evaluate-lt}
 use Rattle.elliptic.proofs.Descent.{Through}
 use Rattle.elliptic.proofs.Zeros.{zeros}
 use Rattle.elliptic.proofs.Steps as steps
+use Rattle.elliptic.proofs.Steps.{after-same}
 use Rattle.codewords.specs.Code.{Code, arithmetic, points}
-use Rattle.codewords.specs.Codewords.{index, symbols, row, placesDiffer, usable, dependent, unitMessage}
-use Rattle.codewords.specs.Computed.{pointsOf as pointsIn, solution, solved, lastZero, lastIndex}
+use Rattle.codewords.specs.Codewords.{index, symbols, message, row, matrix, placesDiffer, usable, dependent, unitMessage}
+use Rattle.codewords.specs.Computed.{pointsOf as pointsAt, solution, solved, lastZero, lastIndex}
 use Rattle.codewords.proofs.Accepted.{Accepted, laws}
 use Rattle.codewords.proofs.Coordinates.{points-get}
 use Rattle.codewords.proofs.Places.{symbols-true, all-at, n-points}
-use Rattle.engine.specs.Places.{pointOf, Within}
+use Rattle.codewords.proofs.Demand3.{unit-message}
+use Rattle.engine.specs.declared.pair.Sizes.{Sizes}
+use Rattle.engine.specs.Places.{pointOf, valueAt}
 use Rattle.engine.proofs.Runs.{point-at}
-use Rattle.values.specs.Values.{Shows}
-use Rattle.solving.specs.Given.{Placed, Works}
-use Rattle.solving.proofs.Link.{accepted, within, place-at, all-in, index-in, on-curve, pts, points-same, no-symbols, sizes, is-dependent}
+use Rattle.values.specs.Values.{Shows, ShownIn, Coordinates, RunsFirst, pointsIn}
+use Rattle.solving.specs.Given.{Placed}
+use Rattle.solving.proofs.Link.{accepted, place-at, all-in, index-in, on-curve, code-coordinates, pts, points-same, no-symbols, small, sizes, zero-by, is-dependent, is-usable}
 use Rattle.solving.proofs.Interpolant.{shown-word}
-use Rattle.coder.proofs.Results.{unit-symbols, the-row}
-use Rattle.generator.specs.Rows.{Other, Chosen, Able, Rows, RowLists, indexAt, unitSymbols, rowValue, entryAt}
+use Rattle.coder.specs.Outcomes.{joined}
+use Rattle.coder.proofs.Results.{the-row}
+use Rattle.generator.specs.Arranged.{freeAt, rank, Places, Apart, Arranged}
+use Rattle.generator.proofs.Arranged.{free-two, free-zero, free-one, rank-as, rank-all, rank-inside, rank-onto}
+use Rattle.generator.specs.Rows.{Able, Rows, RowsStep, raisedOf, unitSymbols, pairAfter, rowValue, entryAt, symbolAt}
 use Rattle.generator.proofs.Adding.{entry-is}
+use Rattle.generator.proofs.Words.{rows-next}
+use Rattle.matrix.specs.Given.{Begun, rowAt}
 
 -- ---- no third point over one coordinate
 
@@ -105,14 +115,6 @@ module _ {code : Code} (a : Accepted code) where
   no-third r s t hr hs ht e f x y z =
       two-over (laws code a) (at r) (at s) (at t) (on-at r hr) (on-at s hs) (on-at t ht) e f (differ-at r s hr hs x) (differ-at r t hr ht y) (differ-at s t hs ht z)
 
-  -- another point over the coordinate of c is the one that was found
-  pub the-other : {c o t : ℕ} → c < length (code .xs) → Other (code .xs) c o → t < length (code .xs) → getD (code .xs) t 0 ≡ getD (code .xs) c 0 → (t ≡ c → ⊥) → t ≡ o
-  the-other {c} {o} {t} hc w ht e n = by (ℕ-discrete t o)
-    where
-      by : Dec (t ≡ o) → t ≡ o
-      by (yes q) = q
-      by (no q) = absurd (no-third c o t hc (w .inside) ht (w .over) e (λ z. w .found t ht e n (sym z)) (λ z. n (sym z)) (λ z. q (sym z)))
-
 -- where L is not zero at the k-th point, what is solved for is the interpolant of the first k
 solved-after : (F : Arithmetic) (k : ℕ) → 1 ≤ k → (ps : List Point) (us : List ℕ) → lastZero F k ps us ≡ false → solved F k ps us ≡ padded k (after F ps us k .word)
 unfolding solved lastIndex after
@@ -121,96 +123,207 @@ solved-after F k h ps us z =
     ap (λ b. let i = cond b k (k - 1) in padded k (step F (getD ps i (point 0 0)) (getD us i 0) (after F ps us (k - 1)) .word)) z
     ∙ ap (λ m. padded k (after F ps us m .word)) e
 
--- ---- a usable choice
+-- ---- the points with the chosen ones first
 
-module _ {code : Code} {J : List ℕ} (w : Works code J) {rx others : List ℕ} (ch : Chosen (code .xs) J rx others (code .k)) where
-  abbrev p : Placed code J
-  p = w .placed
+module _ {code : Code} {J : List ℕ} (p : Placed code J) where
+  abbrev n : ℕ
+  n = length (code .xs)
 
-  inside : (j : ℕ) → j < code .k → indexAt J j < length (code .xs)
-  inside j h = index-in p j (omega (arith, w .full))
+  pub places-in : Places n J
+  places-in j l = let (a, b) = place-at n J (all-in p (code .xs) refl) j l in (a, omega arith)
 
-  unit-are : (j : ℕ) → symbols code (unitSymbols (code .k) j) ≡ true
-  unfolding unitMessage
-  unit-are j = unit-symbols w (index j)
-
-  -- values of functions with coefficients below q
-  pair-sizes : (i : ℕ) → i ≤ code .k → steps.Sizes (arithmetic code) i (after (arithmetic code) (pts p) [] i)
-  pair-sizes i h = sizes p [] (no-symbols code) i (omega (arith, w .full))
-
-  word-sizes : (j i : ℕ) → i ≤ code .k → steps.Sizes (arithmetic code) i (after (arithmetic code) (pts p) (unitSymbols (code .k) j) i)
-  word-sizes j i h = sizes p (unitSymbols (code .k) j) (unit-are j) i (omega (arith, w .full))
-
-  places-apart : (j i : ℕ) → j < i → i < code .k → indexAt J i ≡ indexAt J j → ⊥
+  pub apart : Apart J
   unfolding placesDiffer
-  places-apart j i l h e =
-      let a = eqb-false (getD J j 0) (getD J i 0) (different-get eqb J 0 j i (p .differ) l (omega (arith, w .full))) in
-      let g = place-at (length (code .xs)) J (all-in p (code .xs) refl) j (omega (arith, w .full)) .0 in
-      let k = place-at (length (code .xs)) J (all-in p (code .xs) refl) i (omega (arith, w .full)) .0 in
-      a (omega arith)
+  apart i j l h = eqb-false (getD J i 0) (getD J j 0) (different-get eqb J 0 i j (p .differ) l h)
 
-  pub able : Able (code .field) (code .xs) (code .ys) J others (code .k)
-  able =
-      record {
-        point-lt = first-lt (accepted p);
-        low-lt = λ i t h l. evaluate-lt (laws code (accepted p)) (pair-sizes i (omega arith) .low-under) _;
-        high-lt = λ i t h l. evaluate-lt (laws code (accepted p)) (pair-sizes i (omega arith) .high-under) _;
-        word-lt = λ j i t h l. evaluate-lt (laws code (accepted p)) (word-sizes j i h .word-under) _;
-        some = λ i h z y.
-            let q = point-at (code .xs) (code .ys) J i (omega (arith, w .full)) in
-            let low = after (arithmetic code) (pts p) [] i .low in
-            let high = after (arithmetic code) (pts p) [] i .high in
-            steps.one-nonzero (laws code (accepted p)) (on-curve p)
-            (steps.after-holds (laws code (accepted p)) (on-curve p) (symbols-true code [] (no-symbols code)) i (omega (arith, w .full, length-map J (pointOf (code .xs) (code .ys)))))
-            (omega (arith, w .full, length-map J (pointOf (code .xs) (code .ys))))
-            (ap (evaluate (arithmetic code) low) q ∙ z) (ap (evaluate (arithmetic code) high) q ∙ y);
-        opposite = λ j i l h e. sym (the-other (accepted p) (inside j (omega arith)) (ch .other j (omega arith)) (inside i h) (sym e) (places-apart j i l h));
-      }
+  indices-apart : (i j : ℕ) → i < length J → j < length J → (i ≡ j → ⊥) → getD J i 0 - 1 ≡ getD J j 0 - 1 → ⊥
+  indices-apart i j h g d e =
+      let same : getD J i 0 ≡ getD J j 0 = omega (arith, places-in i h, places-in j g) in
+      elim (decLt i j) [
+        | yes l ↦ apart i j l g same
+        | no l ↦ apart j i (omega arith) h (sym same)
+      ]
 
-  -- a row's function is 1 at its own place
-  own-value : (j : ℕ) → j < code .k → rowValue (code .field) (code .xs) (code .ys) J (code .k) j (code .k) (indexAt J j) ≡ 1
-  own-value j h =
-      let us = unitSymbols (code .k) j in
-      let a = steps.after-holds (laws code (accepted p)) (on-curve p) (symbols-true code us (unit-are j)) (code .k) (omega (arith, w .full, length-map J (pointOf (code .xs) (code .ys)))) in
-      ap (evaluate (arithmetic code) (after (arithmetic code) (pts p) us (code .k) .word)) (sym (point-at (code .xs) (code .ys) J j (omega (arith, w .full))))
-      ∙ a .takes j h ∙ getD-table (λ t. cond (eqb t j) 1 0) (code .k) j 0 h ∙ rw (eq-eqb j j refl)
+  -- of three chosen or free points over one coordinate two are the same
+  pub chosen-alone : (t i j : ℕ) → t < n → i < length J → j < length J → (getD J i 0 - 1 ≡ t → ⊥) → (getD J j 0 - 1 ≡ t → ⊥)
+      → getD (code .xs) (getD J i 0 - 1) 0 ≡ getD (code .xs) t 0 → getD (code .xs) (getD J j 0 - 1) 0 ≡ getD (code .xs) t 0 → j ≡ i
+  chosen-alone t i j ht hi hj di dj ei ej = by (ℕ-discrete j i)
+    where
+      by : Dec (j ≡ i) → j ≡ i
+      by (yes e) = e
+      by (no d) = absurd (no-third (accepted p) t (getD J i 0 - 1) (getD J j 0 - 1) ht (index-in p i hi) (index-in p j hj) ei ej (λ z. di (sym z)) (λ z. dj (sym z)) (indices-apart i j hi hj (λ z. d (sym z))))
 
-  solution-is : (j : ℕ) → padded (code .k) (after (arithmetic code) (pts p) (unitSymbols (code .k) j) (code .k) .word) ≡ solution code J (unitSymbols (code .k) j)
-  unfolding usable
-  solution-is j =
-      let us = unitSymbols (code .k) j in
-      let free : dependent code J ≡ false = not-true _ (w .works) in
-      ap (λ ps. padded (code .k) (after (arithmetic code) ps us (code .k) .word)) (points-same p)
-      ∙ sym (solved-after (arithmetic code) (code .k) (accepted p .k-least) (pointsIn code J) us (sym (is-dependent p us (unit-are j) (w .full) refl) ∙ free))
+  module _ (full : length J ≡ code .k) {px py : List ℕ} (ax : Arranged (code .xs) J (code .k) px) (ay : Arranged (code .ys) J (code .k) py) where
+    abbrev A : Arithmetic
+    A = arithmetic code
 
-  -- THEOREM: the entries that the factors give are the row
-  pub the-entries : {l u a b h : List ℕ} → Rows (code .field) (code .xs) (code .ys) J rx others (code .k) l u a b h (code .k) → (j : ℕ) → j < code .k
-      → table (entryAt (code .field) (code .xs) l u (getD (code .xs) (indexAt J j) 0) (indexAt J j) (getD a j 0) (getD b j 0) (getD h j 0)) (length (code .xs)) ≡ row code J (index j)
-  unfolding unitMessage
-  the-entries {l} {u} {a} {b} {h} rows j g =
-      let m = code .field in
-      let f = rowValue m (code .xs) (code .ys) J (code .k) j (code .k) in
-      let n = length (code .xs) in
-      let word = after (arithmetic code) (pts p) (unitSymbols (code .k) j) (code .k) .word in
-      let same : table (entryAt m (code .xs) l u (getD rx j 0) (indexAt J j) (getD a j 0) (getD b j 0) (getD h j 0)) n ≡ table f n
-      = table-as _ f n (λ t y. entry-is (accepted p .field) (rows .row j g) y (first-lt (accepted p) t y) (rw (ch .own j g) (first-lt (accepted p) (indexAt J j) (inside j g))) (able .word-lt j (code .k) t (omega arith) y)
-      (λ e. ap f e ∙ own-value j g) (λ e d. the-other (accepted p) (inside j g) (ch .other j g) y (e ∙ ch .own j g) d)) in
-      let shown : Shows m (code .xs) (code .ys) 0 word (table f n) = record { size = length-table f n; at = λ t x y. getD-table f n t 0 y } in
-      ap (λ x. table (entryAt m (code .xs) l u x (indexAt J j) (getD a j 0) (getD b j 0) (getD h j 0)) n) (sym (ch .own j g)) ∙ same ∙ the-row w (index j) (shown-word code (accepted p) shown ∙ ap (λ f. map (evaluate (arithmetic code) f) (points code)) (solution-is j))
+    abbrev m : ℕ
+    m = code .field
 
--- ---- what the arrays hold
+    second-size : length py ≡ length px
+    second-size = ay .size ∙ sym (accepted p .lengths) ∙ sym (ax .size)
 
-within-own : {xs ys J : List ℕ} {c : ℕ} → Within xs ys J c → Within xs xs J c
-within-own w = record { enough = w .enough; is-place = λ i h. let p = w .is-place i h in record { one = p .one; most = p .most; coordinates = refl } }
+    -- a point stands for one of the code's
+    source : (s : ℕ) → s < length px → (t : ℕ) × (t < n) × (getD px s 0 ≡ getD (code .xs) t 0) × (getD py s 0 ≡ getD (code .ys) t 0)
+    source s h = by (decLt s (code .k))
+      where
+        by : Dec (s < code .k) → (t : ℕ) × (t < n) × (getD px s 0 ≡ getD (code .xs) t 0) × (getD py s 0 ≡ getD (code .ys) t 0)
+        by (yes l) = (getD J s 0 - 1, index-in p s (omega (arith, full)), ax .chosen s l, ay .chosen s l)
+        by (no l) =
+            let (t, k, f, r) = rank-onto J n (s - code .k) (omega (arith, rank-all n J places-in apart, full, ax .size)) in
+            let here : s ≡ code .k + rank (freeAt J) t = omega arith in
+            (t, k, ap (λ y. getD px y 0) here ∙ ax .rest t k f, ap (λ y. getD py y 0) here ∙ ay .rest t (omega (arith, accepted p .lengths)) f)
 
-module _ {code : Code} {J : List ℕ} (w : Works code J) where
-  pub may-choose : Within (code .xs) (code .xs) J (code .k)
-  may-choose = within-own (within (w .placed) (code .k) (omega (arith, w .full)))
+    pub arranged-coordinates : Coordinates m px py
+    arranged-coordinates = record { as-many = second-size; below = λ i h. let (t, l, e, f) = source i h in rw f (code-coordinates p .below t l) }
 
-  pub few : code .k ≤ 288
-  few = omega (arith, accepted (w .placed) .k-most, accepted (w .placed) .n-most)
+    point-same : (i : ℕ) → i < code .k → point (getD px i 0) (getD py i 0) ≡ pointOf (code .xs) (code .ys) (getD J i 0)
+    point-same i l = ap₂ point (ax .chosen i l) (ay .chosen i l)
 
-  pub row-lists : {rx others a b h : List ℕ} → 288 ≤ length rx → 288 ≤ length others → 288 ≤ length a → 288 ≤ length b → 288 ≤ length h → Chosen (code .xs) J rx others (code .k)
-      → RowLists rx others (code .xs) a b h (code .k)
-  row-lists r o x y z ch =
-      record { points = omega (arith, few); indices = omega (arith, few); firsts = omega (arith, few); seconds = omega (arith, few); values = omega (arith, few); inside = λ j l. ch .other j l .inside }
+    few : code .k ≤ length px
+    few = omega (arith, accepted p .k-most, ax .size)
+
+    -- the functions of the first points are those of the places
+    state-same : (us : List ℕ) (i : ℕ) → i ≤ code .k → after A (pointsIn px py) us i ≡ after A (pts p) us i
+    state-same us i l =
+        after-same A (pointsIn px py) (pts p) us us i
+        (λ j b. getD-table (λ i. point (getD px i 0) (getD py i 0)) (length px) j (point 0 0) (omega (arith, few)) ∙ point-same j (omega arith) ∙ sym (point-at (code .xs) (code .ys) J j (omega (arith, full))))
+        (λ j b. refl)
+
+    pub arranged-runs : RunsFirst m px py (code .k)
+    arranged-runs = record { enough = few; small = λ i l. rw (state-same [] i (omega arith)) (small p [] (no-symbols code) i (omega arith) (omega (arith, full))) }
+
+    unit-are : (j : ℕ) → symbols code (unitSymbols (code .k) j) ≡ true
+    unfolding unitMessage message
+    unit-are j = both-left _ _ (unit-message code (accepted p) j)
+
+    pub able : Able m px py (code .k)
+    able =
+        record {
+          point-lt = λ t h. let (r, l, e, f) = source t h in rw e (first-lt (accepted p) r l);
+          low-lt = λ i t h l. rw (state-same [] i (omega arith)) (evaluate-lt (laws code (accepted p)) (sizes p [] (no-symbols code) i (omega (arith, full)) .low-under) _);
+          high-lt = λ i t h l. rw (state-same [] i (omega arith)) (evaluate-lt (laws code (accepted p)) (sizes p [] (no-symbols code) i (omega (arith, full)) .high-under) _);
+          word-lt = λ j i t h l. rw (state-same (unitSymbols (code .k) j) i h) (evaluate-lt (laws code (accepted p)) (sizes p (unitSymbols (code .k) j) (unit-are j) i (omega (arith, full)) .word-under) _);
+          some = λ i h z y.
+              let at = point-at (code .xs) (code .ys) J i (omega (arith, full)) ∙ sym (point-same i h) in
+              let state = state-same [] i (omega arith) in
+              steps.one-nonzero (laws code (accepted p)) (on-curve p)
+              (steps.after-holds (laws code (accepted p)) (on-curve p) (symbols-true code [] (no-symbols code)) i (omega (arith, full, length-map J (pointOf (code .xs) (code .ys)))))
+              (omega (arith, full, length-map J (pointOf (code .xs) (code .ys))))
+              (ap₂ (λ s P. evaluate A (s .low) P) (sym state) at ∙ z) (ap₂ (λ s P. evaluate A (s .high) P) (sym state) at ∙ y);
+          alone = λ i j r h g l e f.
+              chosen-alone (getD J i 0 - 1) j r (index-in p i (omega (arith, full))) (omega (arith, full)) (omega (arith, full))
+              (indices-apart j i (omega (arith, full)) (omega (arith, full)) (λ z. omega arith)) (indices-apart r i (omega (arith, full)) (omega (arith, full)) (λ z. omega arith))
+              (sym (ax .chosen j (omega arith)) ∙ e ∙ ax .chosen i h) (sym (ax .chosen r (omega arith)) ∙ f ∙ ax .chosen i h);
+        }
+
+    -- L of all but the last point decides whether the places are dependent
+    zero-decides : (l u : List ℕ) (z : Sizes) {r : Bool} → ShownIn m px py (code .k - 1) l u z (pairAfter m px py (code .k - 1)) → r ≡ eqb (getD (cond (z .turned) u l) (code .k - 1) 0) 0
+        → usable code J ≡ not r
+    zero-decides l u z shown e =
+        let c = code .k - 1 in
+        let last : c < code .k = omega (arith, accepted p .k-least) in
+        is-usable p [] (no-symbols code) full
+        (zero-by p [] (no-symbols code) (omega (arith, full))
+        (shown .low-values .at c (omega arith) (omega (arith, few)) ∙ ap₂ (λ s P. evaluate A (s .low) P) (state-same [] c (omega arith)) (point-same c last)) e)
+
+    -- ---- a usable choice
+
+    module _ (works : usable code J ≡ true) {l u a b : List ℕ} (rows : Rows m px py (code .k) l u a b (code .k)) where
+      abbrev word : ℕ → List ℕ
+      word j = after A (pts p) (unitSymbols (code .k) j) (code .k) .word
+
+      abbrev value : ℕ → ℕ → ℕ
+      value j t = valueAt m (code .xs) (code .ys) (word j) t
+
+      -- the row's function at the points of the places
+      at-place : (j i : ℕ) → j < code .k → i < code .k → value j (getD J i 0 - 1) ≡ cond (eqb i j) 1 0
+      at-place j i h g =
+          let us = unitSymbols (code .k) j in
+          let a = steps.after-holds (laws code (accepted p)) (on-curve p) (symbols-true code us (unit-are j)) (code .k) (omega (arith, full, length-map J (pointOf (code .xs) (code .ys)))) in
+          ap (evaluate A (word j)) (sym (point-at (code .xs) (code .ys) J i (omega (arith, full))))
+          ∙ a .takes i g ∙ getD-table (λ t. cond (eqb t j) 1 0) (code .k) i 0 g
+
+      -- and at a free one
+      at-free : (j t : ℕ) → j < code .k → t < n → freeAt J t ≡ 1 → entryAt m px l u a b (code .k) j (code .k + rank (freeAt J) t) ≡ value j t
+      at-free j t h g f =
+          let s = code .k + rank (freeAt J) t in
+          let inside : s < length px = omega (arith, rank-inside n J places-in apart t g f, full, ax .size) in
+          let here : getD px s 0 ≡ getD (code .xs) t 0 = ax .rest t g f in
+          let free : (y : ℕ) → y < code .k → getD J y 0 - 1 ≡ t → ⊥ = λ y q e. free-one J t y f (omega (arith, full)) (omega (arith, places-in y (omega (arith, full)))) in
+          entry-is (accepted p .field) px l u a b (code .k) s j (λ y. rowValue m px py (code .k) y (code .k)) (omega arith) inside (able .point-lt)
+          (λ y q. able .word-lt y (code .k) s (omega arith) inside) (rows .row) (rows .whole (omega (arith, accepted p .k-least)) s (omega arith) inside)
+          (λ y z q r e d. chosen-alone t y z g (omega (arith, full)) (omega (arith, full)) (free y q) (free z r) (sym (ax .chosen y q) ∙ e ∙ here) (sym (ax .chosen z r) ∙ d ∙ here)) h
+          ∙ ap₂ (λ s P. evaluate A (s .word) P) (state-same (unitSymbols (code .k) j) (code .k) (omega arith)) (ap₂ point here (ay .rest t (omega (arith, accepted p .lengths)) f))
+
+      solution-is : (j : ℕ) → padded (code .k) (word j) ≡ solution code J (unitSymbols (code .k) j)
+      unfolding usable
+      solution-is j =
+          let us = unitSymbols (code .k) j in
+          let free : dependent code J ≡ false = not-true _ works in
+          ap (λ ps. padded (code .k) (after A ps us (code .k) .word)) (points-same p)
+          ∙ sym (solved-after A (code .k) (accepted p .k-least) (pointsAt code J) us (sym (is-dependent p us (unit-are j) full refl) ∙ free))
+
+      -- THEOREM: the symbols that the factors give are the row
+      the-symbols : (j : ℕ) → j < code .k → set (table (symbolAt (code .k) (table (freeAt J) n) (entryAt m px l u a b (code .k) j)) n) (getD J j 0 - 1) 1 ≡ row code J (index j)
+      unfolding unitMessage
+      the-symbols j h =
+          let listed : Shows m (code .xs) (code .ys) 0 (word j) (table (value j) n) = record { size = length-table (value j) n; at = λ t x y. getD-table (value j) n t 0 y } in
+          is-table (value j) symbols-of 0 (λ t l. at t (rw size at l) (ℕ-discrete t c)) ∙ ap (table (value j)) size
+          ∙ the-row (record { placed = p; full = full; works = works }) (index j) (shown-word code (accepted p) listed ∙ ap (λ f. map (evaluate A f) (points code)) (solution-is j))
+        where
+          c : ℕ
+          c = getD J j 0 - 1
+
+          free : List ℕ
+          free = table (freeAt J) n
+
+          entry : ℕ → ℕ
+          entry = entryAt m px l u a b (code .k) j
+
+          symbols-of : List ℕ
+          symbols-of = set (table (symbolAt (code .k) free entry) n) c 1
+
+          size : length symbols-of ≡ n
+          size = length-set (table (symbolAt (code .k) free entry) n) c 1 ∙ length-table (symbolAt (code .k) free entry) n
+
+          mark : (t : ℕ) → t < n → getD free t 0 ≡ freeAt J t
+          mark t g = getD-table (freeAt J) n t 0 g
+
+          -- at a place, and at none
+          away : (t : ℕ) → t < n → (t ≡ c → ⊥) → (freeAt J t ≡ 0) ⊎ (freeAt J t ≡ 1) → symbolAt (code .k) free entry t ≡ value j t
+          away t g d (inl z) =
+              let (i, q, e) = free-zero J t z in
+              let here : getD J i 0 - 1 ≡ t = omega arith in
+              rw (eq-eqb _ _ (mark t g ∙ z))
+              (sym (ap (value j) (sym here) ∙ at-place j i h (omega (arith, full)) ∙ ap (λ y. cond y 1 0) (ne-eqb i j (λ w. d (sym here ∙ ap (λ y. getD J y 0 - 1) w)))))
+          away t g d (inr z) =
+              rw (ne-eqb (getD free t 0) 0 (λ w. omega (arith, w, mark t g, z)))
+              (ap (λ r. entry (code .k + r)) (rank-as (λ y. getD free y 0) (freeAt J) t (λ y q. mark y (omega arith))) ∙ at-free j t h g z)
+
+          at : (t : ℕ) → t < n → Dec (t ≡ c) → getD symbols-of t 0 ≡ value j t
+          at t g (yes e) =
+              rw e (getD-set-same (table (symbolAt (code .k) free entry) n) c 1 0 (rw (length-table (symbolAt (code .k) free entry) n) (index-in p j (omega (arith, full)))))
+              ∙ sym (ap (value j) e ∙ at-place j j h h ∙ ap (λ y. cond y 1 0) (eq-eqb j j refl))
+          at t g (no d) = getD-set-other (table (symbolAt (code .k) free entry) n) c t 1 0 d ∙ getD-table (symbolAt (code .k) free entry) n t 0 g ∙ away t g d (free-two J t)
+
+      the-rows : joined (table (rowAt m (code .k) J px l u a b) (code .k)) ≡ joined (matrix code J)
+      unfolding matrix
+      the-rows =
+          ap joined (table-as (rowAt m (code .k) J px l u a b) (λ j. row code J (index j)) (code .k)
+          (λ j h. ap (λ y. set (table (symbolAt (code .k) (table (freeAt J) y) (entryAt m px l u a b (code .k) j)) y) (getD J j 0 - 1) 1) (ax .size) ∙ the-symbols j h))
+
+-- ---- what the arrays say
+
+module _ {code : Code} {J : List ℕ} (p : Placed code J) (full : length J ≡ code .k) {px l u a b : List ℕ} {z : Sizes} (w : Begun code J px l u a b z) where
+  pub decides : {r : Bool} → r ≡ eqb (getD (cond (z .turned) u l) (code .k - 1) 0) 0 → usable code J ≡ not r
+  decides = zero-decides p full (w .firsts) (w .seconds) l u z (w .shown)
+
+  -- the last point is added, and the rows are written
+  pub completes : {l′ u′ a′ b′ : List ℕ} → usable code J ≡ true → RowsStep (code .field) (code .k - 1) px (raisedOf (code .k - 1) (cond (z .turned) u l) (cond (z .turned) l u)) l u a b l′ u′ a′ b′
+      → joined (table (rowAt (code .field) (code .k) J px l′ u′ a′ b′) (code .k)) ≡ joined (matrix code J)
+  completes works step =
+      let next : code .k - 1 + 1 ≡ code .k = omega (arith, accepted p .k-least) in
+      let rows = rows-next (accepted p .field) px (w .py) (code .k) (code .k - 1) (omega (arith, accepted p .k-least)) (omega (arith, w .firsts .size, accepted p .k-least, accepted p .k-most))
+      (able p full (w .firsts) (w .seconds)) l u z (w .shown) (w .rows) step in
+      the-rows p full (w .firsts) (w .seconds) works (rw next at rows)

@@ -1,19 +1,46 @@
--- The arrays of the rows once all places are added.
-use Prim.Native.Nat.{ℕ}
+-- The arrays of Matrix: the first coordinates with those of the chosen places first, L and U by their values, and two factors a row.
+use Prim.Native.Nat.{ℕ, _*_, _-_, _≤_}
 use mathlib.Core.Path.{_≡_}
 use mathlib.Core.List.{List}
-use lib.ListN.{length}
+use lib.ListN.{length, getD, set}
+use Rattle.basics.specs.Lists.{table}
 use Rattle.codewords.specs.Code.{Code}
-use Rattle.solving.specs.Given.{Works}
-use Rattle.generator.specs.Rows.{RowLists, Chosen, Rows}
+use Rattle.engine.specs.declared.pair.Sizes.{Sizes}
+use Rattle.values.specs.Values.{ShownIn}
+use Rattle.generator.specs.Arranged.{freeAt, Places, Apart, Arranged}
+use Rattle.generator.specs.Rows.{RowLists, Rows, pairAfter, entryAt, symbolAt}
 
--- the factors of all rows of a usable choice, and L and U by their values; rx and others are the lists that they were computed with
-pub record Factored (code : Code) (J l u a b h : List ℕ) : Type 0 where
-  pub rx : List ℕ
-  pub others : List ℕ
-  pub works : Works code J
-  pub lists : RowLists rx others (code .xs) a b h (code .k)
-  pub chosen : Chosen (code .xs) J rx others (code .k)
-  pub first-size : length l ≡ length (code .xs)
-  pub second-size : length u ≡ length (code .xs)
-  pub rows : Rows (code .field) (code .xs) (code .ys) J rx others (code .k) l u a b h (code .k)
+-- each as long as there are points
+pub record Sized (n : ℕ) (px l u a b : List ℕ) : Type 0 where
+  pub points : length px ≡ n
+  pub lows : length l ≡ n
+  pub highs : length u ≡ n
+  pub firsts : length a ≡ n
+  pub seconds : length b ≡ n
+
+-- the rows of all chosen places but the last; py are the second coordinates, in the order of the first ones
+pub record Begun (code : Code) (J px l u a b : List ℕ) (z : Sizes) : Type 0 where
+  pub py : List ℕ
+  pub firsts : Arranged (code .xs) J (code .k) px
+  pub seconds : Arranged (code .ys) J (code .k) py
+  pub shown : ShownIn (code .field) px py (code .k - 1) l u z (pairAfter (code .field) px py (code .k - 1))
+  pub rows : Rows (code .field) px py (code .k) l u a b (code .k - 1)
+
+-- what is needed to write k rows
+pub record Written (k : ℕ) (J px l u a b out : List ℕ) : Type 0 where
+  pub lists : RowLists px a b k
+  pub lows : length l ≡ length px
+  pub highs : length u ≡ length px
+  pub most : length px ≤ 288
+  pub places : Places (length px) J
+  pub apart : Apart J
+  pub full : length J ≡ k
+  pub room : length out ≡ k * length px
+
+-- the marks of the points that are not chosen
+abbrev pub frees : List ℕ → List ℕ → List ℕ
+frees J px = table (freeAt J) (length px)
+
+-- the symbols of the row with index j
+abbrev pub rowAt : ℕ → ℕ → List ℕ → List ℕ → List ℕ → List ℕ → List ℕ → List ℕ → ℕ → List ℕ
+rowAt m k J px l u a b j = set (table (symbolAt k (frees J px) (entryAt m px l u a b k j)) (length px)) (getD J j 0 - 1) 1

@@ -1,4 +1,5 @@
 // Matrix: the codewords of all unit messages at k places.
+use crate::write::begin_rows;
 use crate::write::write_rows;
 use basics::Answer;
 use basics::Refusal;
@@ -8,9 +9,9 @@ use code::test::test_code;
 use codewords::Parameters;
 use field::logarithms;
 use field::powers;
-use solving::last_zero::last_zero;
+use generator::factors::rows_turn;
+use solving::solve_word::zero_in;
 use solving::work::ROOM;
-use solving::work::clear_room;
 ghost use mathlib.Core.Path.{_≡_};
 ghost use Prim.Native.Nat.{_*_, _≤_};
 ghost use lib.ListN.{length};
@@ -19,11 +20,45 @@ ghost use Rattle.basics.specs.declared.Answer.the-variants.{Done};
 ghost use Rattle.field.specs.Tables.{Tables};
 ghost use Rattle.codewords.specs.Code.{codeOf, codeAnswer};
 ghost use Rattle.solving.specs.Given.{Placed};
+ghost use Rattle.matrix.specs.Given.{Sized};
 ghost use Rattle.solving.specs.Tests.{room};
 ghost use Rattle.coder.specs.Outcomes.{matrixOutcome};
 ghost use Rattle.coder.specs.Stages.{matrixRun, matrixPlaced, matrixTested};
 
-// Matrix of k different places.
+// Matrix of k different places. The arrays are lent. The working space is used where nothing is refused any more.
+fn matrix_in(
+    p: Parameters,
+    powers: &[u8; 255],
+    logs: &[u8; 256],
+    xs: &[u8],
+    ys: &[u8],
+    places: &[u16],
+    px: &mut [u8],
+    l: &mut [u8],
+    u: &mut [u8],
+    a: &mut [u8],
+    b: &mut [u8],
+    out: &mut [u8],
+    work: &mut [u8],
+) -> Answer
+    requires { ⌜ Tables (p .field) (now powers) (now logs) ⌝ }
+    requires { ⌜ Placed (codeOf p (now xs) (now ys)) (now places) × (length (now places) ≡ p .k) × Sized (length (now xs)) (now px) (now l) (now u) (now a) (now b)
+        × (length (now out) ≡ p .k * length (now xs)) × (room ≤ length (now work)) ⌝ }
+    ensures { λ r. ⌜ Meets (matrixRun (codeOf p (now (xs .entry)) (now (ys .entry))) (now (places .entry)) (now (work .entry))) r
+        (now (out .entry), now (work .entry)) (now (out .exit), now (work .exit)) ⌝ }
+{
+    let z = begin_rows(p, powers, logs, xs, ys, places, px, l, u, a, b);
+    let k = p.k;
+    let last = k - 1;
+    if zero_in(last, l, u, z) {
+        return Answer::Refused(Refusal::Dependent);
+    }
+    rows_turn(p.field, powers, logs, last, px, l, u, a, b, z);
+    write_rows(p.field, powers, logs, k, places, px, l, u, a, b, out, work);
+    Answer::Done
+}
+
+// The same with arrays of its own: 1,440 bytes.
 fn matrix_run(
     p: Parameters,
     powers: &[u8; 255],
@@ -39,12 +74,27 @@ fn matrix_run(
     ensures { λ r. ⌜ Meets (matrixRun (codeOf p (now (xs .entry)) (now (ys .entry))) (now (places .entry)) (now (work .entry))) r
         (now (out .entry), now (work .entry)) (now (out .exit), now (work .exit)) ⌝ }
 {
-    if last_zero(p, powers, logs, xs, ys, places) {
-        return Answer::Refused(Refusal::Dependent);
-    }
-    write_rows(p, powers, logs, xs, ys, places, out);
-    clear_room(work);
-    Answer::Done
+    let n = xs.len();
+    let mut px = [0u8; 288];
+    let mut l = [0u8; 288];
+    let mut u = [0u8; 288];
+    let mut a = [0u8; 288];
+    let mut b = [0u8; 288];
+    matrix_in(
+        p,
+        powers,
+        logs,
+        xs,
+        ys,
+        places,
+        &mut px[..n],
+        &mut l[..n],
+        &mut u[..n],
+        &mut a[..n],
+        &mut b[..n],
+        out,
+        work,
+    )
 }
 
 // Matrix of lists that have the right lengths.

@@ -1,134 +1,104 @@
-// The rows of Matrix: the factors of all of them, and then the entries of each, in its own part of the buffer.
+// The rows of Matrix: the points with the chosen ones first, the factors of the rows, and then the symbols of each row, in its own part of the buffer.
 use basics::Place;
 use codewords::Parameters;
+use engine::pair::Sizes;
+use generator::arrange::arrange;
+use generator::arrange::mark;
 use generator::entries::fill_row;
-use generator::run::choose;
 use generator::run::run_rows;
+use solving::work::clear_room;
 use values::run::index_of;
 ghost use mathlib.Core.Path.{_≡_};
-ghost use Prim.Native.Nat.{_*_, _≤_};
+ghost use Prim.Native.Nat.{_≤_};
 ghost use lib.ListN.{length};
+ghost use Rattle.basics.specs.Lists.{table};
 ghost use Rattle.field.specs.Tables.{Tables};
 ghost use Rattle.codewords.specs.Code.{codeOf};
-ghost use Rattle.codewords.specs.Codewords.{matrix};
-ghost use Rattle.solving.specs.Given.{Works};
+ghost use Rattle.solving.specs.Given.{Placed};
+ghost use Rattle.solving.specs.Tests.{room, cleared};
 ghost use Rattle.coder.specs.Outcomes.{joined};
-ghost use Rattle.matrix.specs.Given.{Factored};
+ghost use Rattle.matrix.specs.Given.{Sized, Begun, Written, frees, rowAt};
 
-// The entries of all rows.
-fn fill_rows(
+// The points with the chosen ones first, and the rows of all of these but the last. Until then a marks the points that are not chosen.
+pub fn begin_rows(
     p: Parameters,
     powers: &[u8; 255],
     logs: &[u8; 256],
     xs: &[u8],
     ys: &[u8],
     places: &[u16],
-    l: &[u8],
-    u: &[u8],
-    a: &[u8],
-    b: &[u8],
-    h: &[u8],
-    out: &mut [u8],
-)
-    requires { ⌜ Tables (p .field) (now powers) (now logs) ⌝ }
-    requires { ⌜ Factored (codeOf p (now xs) (now ys)) (now places) (now l) (now u) (now a) (now b) (now h)
-        × (length (now out) ≡ p .k * length (now xs)) ⌝ }
-    ensures { λ _. ⌜ now (out .exit) ≡ joined (matrix (codeOf p (now (xs .entry)) (now (ys .entry))) (now (places .entry))) ⌝ }
-{
-    let m = p.field;
-    let k = p.k;
-    let n = xs.len();
-    let mut i = 0;
-    while i < k {
-        let place = places[i];
-        let c = index_of(Place(place));
-        let x = xs[c];
-        let start = i * n;
-        let end = start + n;
-        fill_row(
-            m,
-            powers,
-            logs,
-            x,
-            c,
-            a[i],
-            b[i],
-            h[i],
-            xs,
-            l,
-            u,
-            &mut out[start..end],
-        );
-        i += 1;
-    }
-}
-
-// The factors of all rows, and then their entries. The arrays are lent; `over` is for the other points over the places' coordinates.
-fn rows_in(
-    p: Parameters,
-    powers: &[u8; 255],
-    logs: &[u8; 256],
-    xs: &[u8],
-    ys: &[u8],
-    places: &[u16],
-    rx: &mut [u8],
-    over: &mut [u16],
+    px: &mut [u8],
     l: &mut [u8],
     u: &mut [u8],
     a: &mut [u8],
     b: &mut [u8],
-    h: &mut [u8],
-    out: &mut [u8],
-)
+) -> Sizes
     requires { ⌜ Tables (p .field) (now powers) (now logs) ⌝ }
-    requires { ⌜ Works (codeOf p (now xs) (now ys)) (now places) × (length (now l) ≡ length (now xs)) × (length (now u) ≡ length (now xs))
-        × (length (now out) ≡ p .k * length (now xs)) ⌝ }
-    requires { ⌜ (288 ≤ length (now rx)) × (288 ≤ length (now over)) × (288 ≤ length (now a)) × (288 ≤ length (now b)) × (288 ≤ length (now h)) ⌝ }
-    ensures { λ _. ⌜ now (out .exit) ≡ joined (matrix (codeOf p (now (xs .entry)) (now (ys .entry))) (now (places .entry))) ⌝ }
+    requires { ⌜ Placed (codeOf p (now xs) (now ys)) (now places) × (length (now places) ≡ p .k) × Sized (length (now xs)) (now px) (now l) (now u) (now a) (now b) ⌝ }
+    ensures { λ r. ⌜ Begun (codeOf p (now (xs .entry)) (now (ys .entry))) (now (places .entry)) (now (px .exit)) (now (l .exit)) (now (u .exit)) (now (a .exit)) (now (b .exit)) r ⌝ }
 {
-    let m = p.field;
     let k = p.k;
-    choose(xs, places, k, rx, over);
-    run_rows(m, powers, logs, xs, ys, places, k, rx, over, l, u, a, b, h);
-    fill_rows(p, powers, logs, xs, ys, places, l, u, a, b, h, out);
+    mark(places, a);
+    arrange(places, a, xs, px);
+    arrange(places, a, ys, u);
+    run_rows(p.field, powers, logs, px, k, l, u, a, b)
 }
 
-// The same with arrays of its own.
-pub fn write_rows(
-    p: Parameters,
+// The symbols of all rows. `free` marks the points that are not chosen.
+fn fill_rows(
+    m: u8,
     powers: &[u8; 255],
     logs: &[u8; 256],
-    xs: &[u8],
-    ys: &[u8],
+    k: usize,
     places: &[u16],
+    free: &[u8],
+    px: &[u8],
+    l: &[u8],
+    u: &[u8],
+    a: &[u8],
+    b: &[u8],
     out: &mut [u8],
 )
-    requires { ⌜ Tables (p .field) (now powers) (now logs) ⌝ }
-    requires { ⌜ Works (codeOf p (now xs) (now ys)) (now places) × (length (now out) ≡ p .k * length (now xs)) ⌝ }
-    ensures { λ _. ⌜ now (out .exit) ≡ joined (matrix (codeOf p (now (xs .entry)) (now (ys .entry))) (now (places .entry))) ⌝ }
+    requires { ⌜ Tables m (now powers) (now logs) ⌝ }
+    requires { ⌜ Written k (now places) (now px) (now l) (now u) (now a) (now b) (now out) × (now free ≡ frees (now places) (now px)) ⌝ }
+    ensures { λ _. ⌜ now (out .exit) ≡ joined (table (rowAt m k (now (places .entry)) (now (px .entry)) (now (l .entry)) (now (u .entry)) (now (a .entry)) (now (b .entry))) k) ⌝ }
 {
-    let n = xs.len();
-    let mut rx = [0u8; 288];
-    let mut others = [0u16; 288];
-    let mut l = [0u8; 288];
-    let mut u = [0u8; 288];
-    let mut a = [0u8; 288];
-    let mut b = [0u8; 288];
-    let mut h = [0u8; 288];
-    rows_in(
-        p,
-        powers,
-        logs,
-        xs,
-        ys,
-        places,
-        &mut rx,
-        &mut others,
-        &mut l[..n],
-        &mut u[..n],
-        &mut a,
-        &mut b,
-        &mut h,
-        out,
-    );
+    let n = px.len();
+    let mut i = 0;
+    while i < k {
+        let place = places[i];
+        let c = index_of(Place(place));
+        let start = i * n;
+        let end = start + n;
+        let row = &mut out[start..end];
+        fill_row(m, powers, logs, i, c, k, free, px, l, u, a, b, row);
+        i += 1;
+    }
+}
+
+// The same with the marks in the working space, which is cleared behind it.
+pub fn write_rows(
+    m: u8,
+    powers: &[u8; 255],
+    logs: &[u8; 256],
+    k: usize,
+    places: &[u16],
+    px: &[u8],
+    l: &[u8],
+    u: &[u8],
+    a: &[u8],
+    b: &[u8],
+    out: &mut [u8],
+    work: &mut [u8],
+)
+    requires { ⌜ Tables m (now powers) (now logs) ⌝ }
+    requires { ⌜ Written k (now places) (now px) (now l) (now u) (now a) (now b) (now out) × (room ≤ length (now work)) ⌝ }
+    ensures { λ _. ⌜ (now (out .exit) ≡ joined (table (rowAt m k (now (places .entry)) (now (px .entry)) (now (l .entry)) (now (u .entry)) (now (a .entry)) (now (b .entry))) k))
+        × (now (work .exit) ≡ cleared (now (work .entry))) ⌝ }
+{
+    let n = px.len();
+    mark(places, &mut work[..n]);
+    let free = &work[..n];
+    fill_rows(m, powers, logs, k, places, free, px, l, u, a, b, out);
+    clear_room(work);
 }

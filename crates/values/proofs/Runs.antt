@@ -35,7 +35,7 @@ module _ {F : Arithmetic} (K : Field F) where
   y-value : (x y : ℕ) → 0 ⊕ x · (0 ⊕ x · 0) ⊕ y · (1 ⊕ x · 0) ≡ 1 · y
   y-value x y = simp ring
 
-  start-low : (P : Point) → evaluate F (start .low) P ≡ 1
+  pub start-low : (P : Point) → evaluate F (start .low) P ≡ 1
   unfolding evaluate horner
   start-low P = one-value (P .x) (P .y)
 

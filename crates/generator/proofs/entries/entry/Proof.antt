@@ -1,22 +1,61 @@
--- By cases: over the row's own point, or not.
-use borrow.Author.Tests.{eq-eqb, ne-eqb}
-use Rattle.field.specs.Sum.{_⊕_}
+-- By cases of whether both have the same first coordinate.
+use Rattle.generator.proofs.Turns.{entry-over, entry-away, quotient-by}
 use borrow.Author.Needs.{needs}
 use Rattle.generator.proofs.entries.entry.Statement.{statement}
 use Rattle.generator.proofs.entries.entry.Tie as tie
 
-returns : tie.Need-returns
-returns c = rw (eq-eqb _ _ (c .before .if1 .taken), eq-eqb _ _ (c .if2 .taken))
+shared-slice-read-x : tie.Need-shared-slice-read-x
+shared-slice-read-x c = search needs
 
-returns-2 : tie.Need-returns-2
-returns-2 c = rw (eq-eqb _ _ (c .before .if1 .taken), ne-eqb _ _ (c .if2 .left))
+shared-slice-read-alpha : tie.Need-shared-slice-read-alpha
+shared-slice-read-alpha c = search needs
+
+shared-slice-read-v : tie.Need-shared-slice-read-v
+shared-slice-read-v c = search needs
+
+shared-slice-read-w : tie.Need-shared-slice-read-w
+shared-slice-read-w c = search needs
+
+column-sum-requires : tie.Need-column-sum-requires
+column-sum-requires c κs = search needs
+
+returns : tie.Need-returns
+returns c = let a = c .before .before .before .before .before .before .before .before .before .before .before .args in entry-over (a .m) (a .xs .now) (a .l .now) (a .u .now) (a .a .now) (a .b .now) (a .count) (a .j) (a .s) (c .before .if1 .taken) (c .column-sum .ensures)
+
+shared-slice-read-product : tie.Need-shared-slice-read-product
+shared-slice-read-product c = search needs
+
+product-requires : tie.Need-product-requires
+product-requires c κs = search needs
+
+shared-slice-read-product-2 : tie.Need-shared-slice-read-product-2
+shared-slice-read-product-2 c = search needs
+
+product-requires-2 : tie.Need-product-requires-2
+product-requires-2 c κs = search needs
 
 quotient-requires : tie.Need-quotient-requires
 quotient-requires c κs = search needs
 
-returns-3 : tie.Need-returns-3
-unfolding _⊕_
-returns-3 c = rw (ne-eqb _ _ (c .before .if1 .left)) (c .quotient .ensures)
+returns-2 : tie.Need-returns-2
+returns-2 c =
+    let a = c .before .before .before .before .before .before .before .before .before .before .before .before .before .before .before .args in
+    entry-away (a .m) (a .xs .now) (a .l .now) (a .u .now) (a .a .now) (a .b .now) (a .count) (a .j) (a .s) (c .before .before .before .before .before .if1 .left)
+    (quotient-by (a .m) _ _ _ (a .xs .now) (a .a .now) (a .b .now) (a .j) (c .before .before .before .product .ensures) (c .before .product2 .ensures) (c .quotient .ensures))
 
 pub entry-spec : {M : Type 1} → statement M
-entry-spec = tie.close (tie.spec returns returns-2 quotient-requires returns-3)
+entry-spec =
+    tie.close
+    (tie.spec
+    shared-slice-read-x
+    shared-slice-read-alpha
+    shared-slice-read-v
+    shared-slice-read-w
+    column-sum-requires
+    returns
+    shared-slice-read-product
+    product-requires
+    shared-slice-read-product-2
+    product-requires-2
+    quotient-requires
+    returns-2)

@@ -1,78 +1,88 @@
--- The loop's invariant: the first i entries are in place, and the rest of the row is as it was.
-use mathlib.Core.Path.{_≡_, refl, ap, _∙_}
-use Prim.Native.Nat.{_≤_, _-_}
+-- The loop's invariant: the symbols up to i are in place, and s is the index of the next point that is not chosen.
+use mathlib.Core.Path.{_≡_, refl, _∙_, ap}
+use mathlib.Core.Logic.{⊎-elim}
+use Prim.Native.Nat.{_+_, _-_, _≤_}
+use native.Mathlib.Numerals.{add-one}
 use native.Mathlib.Omega.{arith}
-use lib.ListN.{length, length-set}
-use borrow.Author.Needs.{needs}
+use lib.ListN.{length, getD, set, length-set}
 use Rattle.basics.specs.Lists.{table}
 use Rattle.basics.proofs.Loops.{filled, filled-turn, filled-all}
-use Rattle.field.specs.Sum.{_⊕_}
-use Rattle.engine.proofs.Laws.{logged, by-logged}
-use Rattle.generator.specs.Rows.{entryAt}
+use Rattle.generator.specs.Arranged.{rank}
+use Rattle.generator.specs.Rows.{entryAt, symbolAt}
+use Rattle.generator.proofs.Arranged.{rank-next}
+use Rattle.generator.proofs.Turns.{symbol-none, symbol-some}
+use borrow.Author.Needs.{needs}
 use Rattle.generator.proofs.entries.fill_row.Statement.{statement}
 use Rattle.generator.proofs.entries.fill_row.Tie as tie
 
 abbrev Inv-loop : tie.InvT-loop
-Inv-loop m powers logs x c a b h xs l u row₀ by-a by-b n i₀ row i = (i ≤ length row₀) × (length row ≡ length row₀) × (row ≡ filled (entryAt m xs l u x c a b h) row₀ i)
+Inv-loop m powers logs j c count free xs l u a b row₀ s₀ i₀ row s i = (i ≤ length row₀) × (length row ≡ length row₀) × (row ≡ filled (symbolAt count free (entryAt m xs l u a b count j)) row₀ i) × (s ≡ count + rank (λ t. getD free t 0) i)
 
 abbrev μ-loop : tie.MeasureT-loop
-μ-loop m powers logs x c a b h xs l u row₀ by-a by-b n i₀ row i = length row₀ - i
-
-logarithm-requires : tie.Need-logarithm-requires Inv-loop μ-loop
-logarithm-requires c κs = search needs
-
-logarithm-requires-2 : tie.Need-logarithm-requires-2 Inv-loop μ-loop
-logarithm-requires-2 c κs = search needs
+μ-loop m powers logs j c count free xs l u a b row₀ s₀ i₀ row s i = length row₀ - i
 
 loop-holds : tie.Need-loop-holds Inv-loop μ-loop
-loop-holds c = (omega arith, refl, refl)
+loop-holds c = (omega arith, refl, refl, omega arith)
 
-shared-slice-read-product-by-log : tie.Need-shared-slice-read-product-by-log Inv-loop μ-loop
-shared-slice-read-product-by-log c = omega (arith, c .before .before .before .before .before .before .before .before .before .pre .1 .0, c .before .before .before .before .before .before .before .before .before .pre .1 .2, c .before .before .loop .inv .1)
-
-product-by-log-requires : tie.Need-product-by-log-requires Inv-loop μ-loop
-product-by-log-requires c κs = let s = c .before .before .before .before .before .before .before .before .before in (s .pre .0, logged (s .pre .0 .field) (s .fits .a .fits) (c .before .before .before .before .logarithm .ensures))
-
-shared-slice-read-product-by-log-2 : tie.Need-shared-slice-read-product-by-log-2 Inv-loop μ-loop
-shared-slice-read-product-by-log-2 c = omega (arith, c .before .before .before .before .before .before .before .before .before .before .before .pre .1 .1, c .before .before .before .before .before .before .before .before .before .before .before .pre .1 .2, c .before .before .before .before .loop .inv .1)
-
-product-by-log-requires-2 : tie.Need-product-by-log-requires-2 Inv-loop μ-loop
-product-by-log-requires-2 c κs = let s = c .before .before .before .before .before .before .before .before .before .before .before in (s .pre .0, logged (s .pre .0 .field) (s .fits .b .fits) (c .before .before .before .before .before .logarithm2 .ensures))
-
-shared-slice-read-entry : tie.Need-shared-slice-read-entry Inv-loop μ-loop
-shared-slice-read-entry c = omega (arith, c .before .before .before .before .before .before .before .before .before .before .before .before .before .pre .1 .2, c .before .before .before .before .before .before .loop .inv .1)
-
-entry-requires : tie.Need-entry-requires Inv-loop μ-loop
-entry-requires c κs = search needs
+shared-slice-read-f : tie.Need-shared-slice-read-f Inv-loop μ-loop
+shared-slice-read-f c = let p = c .before .before .before .before .before .before .before .before .before .before .pre .1 .1 in omega (arith, c .before .loop-test .taken, c .before .before .loop .inv .1, p .2, p .3)
 
 slice-write-row : tie.Need-slice-write-row Inv-loop μ-loop
-slice-write-row c = search needs
+slice-write-row c = omega (arith, c .before .before .loop-test .taken)
+
+entry-requires : tie.Need-entry-requires Inv-loop μ-loop
+entry-requires c κs =
+    let s = c .before .before .before .before .before .before .before .before .before .before .before in
+    let at = c .before .before .before .loop in
+    (s .pre .0, (s .pre .1 .0, (s .pre .1 .1 .0, omega (arith, at .inv .3, rank-next (λ t. getD (s .args .free .now) t 0) (at .i) (length (s .args .xs .now)) (omega (arith, c .before .before .loop-test .taken, at .inv .1, s .pre .1 .1 .2)), s .pre .1 .1 .4, c .if1 .left))))
+
+slice-write-row-2 : tie.Need-slice-write-row-2 Inv-loop μ-loop
+slice-write-row-2 c = omega (arith, c .before .before .before .loop-test .taken)
+
+wide-requires : tie.Need-wide-requires Inv-loop μ-loop
+wide-requires c κs = search needs
+
+add-s : tie.Need-add-s Inv-loop μ-loop
+add-s c =
+    let s = c .before .before .before .before .before .before .before .before .before .before .before .before in
+    let at = c .before .before .before .before .loop in
+    record { fits = omega (arith, at .inv .3, c .wide .ensures, rank-next (λ t. getD (s .args .free .now) t 0) (at .i) (length (s .args .xs .now)) (omega (arith, c .before .before .before .loop-test .taken, at .inv .1, s .pre .1 .1 .2)), s .pre .1 .1 .4, s .pre .1 .0 .3) }
 
 add-i : tie.Need-add-i Inv-loop μ-loop
-add-i c = record { fits = omega (arith, c .before .before .before .before .before .before .loop-test .taken, c .before .before .before .before .before .before .before .before .before .before .before .before .before .before .pre .1 .3, c .before .before .before .before .before .before .before .before .before .before .before .before .before .before .pre .1 .2) }
+add-i c = let s = c .before .before .before .before .before .before .before .before .before .before .before .before in record { fits = omega (arith, c .before .before .before .loop-test .taken, c .before .before .before .before .loop .inv .1, s .pre .1 .1 .2, s .pre .1 .0 .3) }
 
 loop-less : tie.Need-loop-less Inv-loop μ-loop
 loop-less c = search needs
 
 loop-again : tie.Need-loop-again Inv-loop μ-loop
-unfolding _⊕_
-loop-again c = let at = c .before .before .before .before .before .before .before .loop in
-    let s = c .before .before .before .before .before .before .before .before .before .before .before .before .before .before in
-    let g = s .args in
-    let first = by-logged (s .pre .0 .field) (s .fits .a .fits) (c .before .before .before .before .before .before .before .before .before .logarithm .ensures) _ (c .before .before .before .before .product-by-log .ensures) in
-    let second = by-logged (s .pre .0 .field) (s .fits .b .fits) (c .before .before .before .before .before .before .before .before .logarithm2 .ensures) _ (c .before .before .product-by-log2 .ensures) in
-    (omega arith, simp length-set (at .inv .1), filled-turn (entryAt (g .m) (g .xs .now) (g .l .now) (g .u .now) (g .x) (g .c) (g .a) (g .b) (g .h)) (g .row .now) (at .i) (omega arith) (at .inv .2) (rw (← first, ← second) (c .entry .ensures)))
+loop-again c =
+    let at = c .before .before .before .before .loop in
+    let a = c .before .before .before .before .before .before .before .before .before .before .before .before .args in
+    let g = entryAt (a .m) (a .xs .now) (a .l .now) (a .u .now) (a .a .now) (a .b .now) (a .count) (a .j) in
+    let rule = symbolAt (a .count) (a .free .now) g in
+    let came = c .before .if1 .came in (
+      omega arith,
+      ⊎-elim (λ w. rw (w .1) (simp length-set (at .inv .1))) (λ w. rw (w .2) (simp length-set (at .inv .1))) came,
+      ⊎-elim
+          (λ w. w .1 ∙ filled-turn rule (a .row .now) (at .i) (omega arith) (at .inv .2) (symbol-none (a .count) (a .free .now) g (at .i) (w .0 .taken)))
+          (λ w. w .2 ∙ filled-turn rule (a .row .now) (at .i) (omega arith) (at .inv .2) (symbol-some (a .count) (a .free .now) g (at .i) (w .0 .left) (at .inv .3) (w .1 .ensures)))
+          came,
+      rw (add-one (at .i)) (omega (arith, at .inv .3, c .wide .ensures)),
+    )
+
+slice-write-row-3 : tie.Need-slice-write-row-3 Inv-loop μ-loop
+slice-write-row-3 c = search needs
 
 same-length : tie.Need-same-length Inv-loop μ-loop
-same-length c = c .before .loop .inv .1
+same-length c = simp length-set (c .before .loop .inv .1)
 
 returns : tie.Need-returns Inv-loop μ-loop
-returns c = let at = c .before .loop in
-    let s = c .before .before .before .before .before .before .before .before in
-    let g = s .args in
-    let f = entryAt (g .m) (g .xs .now) (g .l .now) (g .u .now) (g .x) (g .c) (g .a) (g .b) (g .h) in
-    let full : at .i ≡ length (g .xs .now) = omega (arith, s .pre .1 .2) in
-    at .inv .2 ∙ filled-all f (g .row .now) (at .i) (omega arith) ∙ ap (table f) full
+returns c =
+    let at = c .before .loop in
+    let a = c .before .before .before .before .before .before .before .before .before .args in
+    let full : at .i ≡ length (a .xs .now) = omega (arith, at .inv .1, c .before .before .before .before .before .before .before .before .before .pre .1 .1 .2) in
+    let rule = symbolAt (a .count) (a .free .now) (entryAt (a .m) (a .xs .now) (a .l .now) (a .u .now) (a .a .now) (a .b .now) (a .count) (a .j)) in
+    ap (λ r. set r (a .c) 1) (at .inv .2 ∙ filled-all rule (a .row .now) (at .i) (omega arith) ∙ ap (table rule) full)
 
 pub fill-row-spec : {M : Type 1} → statement M
 fill-row-spec =
@@ -80,18 +90,16 @@ fill-row-spec =
     (tie.spec
     Inv-loop
     μ-loop
-    logarithm-requires
-    logarithm-requires-2
     loop-holds
-    shared-slice-read-product-by-log
-    product-by-log-requires
-    shared-slice-read-product-by-log-2
-    product-by-log-requires-2
-    shared-slice-read-entry
-    entry-requires
+    shared-slice-read-f
     slice-write-row
+    entry-requires
+    slice-write-row-2
+    wide-requires
+    add-s
     add-i
     loop-less
     loop-again
+    slice-write-row-3
     same-length
     returns)

@@ -1,27 +1,31 @@
--- The rows so far, and then the new one.
+-- The multiples, what they leave for the row over the coordinate, and the new row.
 use native.Mathlib.Omega.{arith}
-use Rattle.generator.proofs.Updates.{rows-raised, fewer-rows}
+use lib.ListN.{length-set}
+use Rattle.generator.proofs.Turns.{rows-raised, fewer-rows}
 use borrow.Author.Needs.{needs}
 use Rattle.generator.proofs.factors.raise_rows.Statement.{statement}
 use Rattle.generator.proofs.factors.raise_rows.Tie as tie
 
-update-rows-requires : tie.Need-update-rows-requires
-update-rows-requires c κs = let s = c .before .before .before .before .before .before .before .before .before in (s .pre .0, fewer-rows (s .pre .1))
+shared-slice-read-alpha : tie.Need-shared-slice-read-alpha
+shared-slice-read-alpha c = omega (arith, c .before .before .before .before .pre .1 .0 .points)
 
-mul-o : tie.Need-mul-o
-mul-o c = search needs
+inverse-requires : tie.Need-inverse-requires
+inverse-requires c κs = search needs
 
-shared-slice-read-o : tie.Need-shared-slice-read-o
-shared-slice-read-o c = search needs
+take-multiples-requires : tie.Need-take-multiples-requires
+take-multiples-requires c κs = let s = c .before .before .before .before .before .before .before in (s .pre .0, (fewer-rows (s .pre .1 .0), s .pre .1 .1))
 
-wide-requires : tie.Need-wide-requires
-wide-requires c κs = search needs
+find-over-requires : tie.Need-find-over-requires
+find-over-requires c κs = let s = c .before .before .before .before .before .before .before .before .before .before in (omega (arith, s .pre .1 .0 .points), s .pre .1 .1)
 
-new-row-requires : tie.Need-new-row-requires
-new-row-requires c κs = let s = c .before .before .before .before .before .before .before .before .before .before .before .before .before .before .before .before .before .before .before in
-    let g = s .pre .1 in
-    let u = c .before .before .before .before .before .before .before .before .before .update-rows .ensures in
-    (s .pre .0, (omega (arith, g .firsts, u .0 .size), omega (arith, g .seconds), omega (arith, g .values, u .1 .size), omega (arith, c .before .before .before .wide .ensures, g .inside (s .args .i) (omega arith))))
+slice-write-a : tie.Need-slice-write-a
+slice-write-a c = let g = c .before .before .before .before .before .before .before .before .before .before .before .pre .1 .0 in omega (arith, g .firsts, c .find-over .ensures .most, c .before .before .before .take-multiples .ensures .0 .size)
+
+slice-write-a-2 : tie.Need-slice-write-a-2
+slice-write-a-2 c = let g = c .before .before .before .before .before .before .before .before .before .before .before .pre .1 .0 in simp length-set (omega (arith, g .firsts, c .before .before .before .take-multiples .ensures .0 .size))
+
+slice-write-b : tie.Need-slice-write-b
+slice-write-b c = search needs
 
 same-length : tie.Need-same-length
 same-length c = search needs
@@ -29,24 +33,24 @@ same-length c = search needs
 same-length-2 : tie.Need-same-length-2
 same-length-2 c = search needs
 
-same-length-3 : tie.Need-same-length-3
-same-length-3 c = search needs
-
 returns : tie.Need-returns
-returns c = let u = c .before .before .before .before .before .before .before .before .before .before .before .before .before .before .before .before .update-rows .ensures in
-    let n = c .before .before .before .before .before .before .new-row .ensures in
-    rows-raised (c .before .before .before .before .before .before .before .before .before .before .before .before .before .before .before .before .before .before .before .before .before .before .before .before .before .before .pre .1) (u .0) (u .1) (c .before .before .before .before .before .before .before .before .before .before .wide .ensures) (n .0) (n .1) (n .2)
+returns c =
+    let s = c .before .before .before .before .before .before .before .before .before .before .before in
+    let a = s .args in
+    let t = c .before .before .before .take-multiples .ensures in
+    rows-raised (a .m) (a .i) (a .rc) (a .t) (a .xs .now) (a .a .now) (a .b .now) (s .pre .1 .0) (c .before .before .before .before .before .before .inverse .ensures) (t .0) (t .1) (c .find-over .ensures)
 
 pub raise-rows-spec : {M : Type 1} → statement M
 raise-rows-spec =
     tie.close
     (tie.spec
-    update-rows-requires
-    mul-o
-    shared-slice-read-o
-    wide-requires
-    new-row-requires
+    shared-slice-read-alpha
+    inverse-requires
+    take-multiples-requires
+    find-over-requires
+    slice-write-a
+    slice-write-a-2
+    slice-write-b
     same-length
     same-length-2
-    same-length-3
     returns)

@@ -1,15 +1,16 @@
 -- The arrays are handed on in the order L, U.
 use Rattle.values.proofs.Steps.{steps-round}
 use Rattle.generator.proofs.Adding.{rows-round}
-use Rattle.generator.proofs.Updates.{rows-turned}
+use Rattle.generator.proofs.Turns.{rows-turned}
 use borrow.Author.Needs.{needs}
 use Rattle.generator.proofs.factors.rows_turn.Statement.{statement}
 use Rattle.generator.proofs.factors.rows_turn.Tie as tie
 
 rows-step-requires : tie.Need-rows-step-requires
-rows-step-requires c κs = let s = c .before .before .before .before .before .before .before .before .before .before .before .before .before .before in
-    let fits = s .pre .1 .1 in
-    (s .pre .0, (s .pre .1 .0, record { first = fits .second; second = fits .first; low-room = fits .low-room; high-room = fits .high-room }, rows-turned (s .pre .1 .2)))
+rows-step-requires c κs =
+    let s = c .before .before .before .before .before .before .before .before .before .before in
+    let fits = s .pre .1 .0 in
+    (s .pre .0, (record { first = fits .second; second = fits .first; low-room = fits .low-room; high-room = fits .high-room }, rows-turned (s .pre .1 .1), s .pre .1 .2))
 
 swapped-requires : tie.Need-swapped-requires
 swapped-requires c κs = search needs
@@ -26,15 +27,16 @@ same-length-3 c = search needs
 same-length-4 : tie.Need-same-length-4
 same-length-4 c = search needs
 
-same-length-5 : tie.Need-same-length-5
-same-length-5 c = search needs
-
 returns : tie.Need-returns
-returns c = let p = c .before .before .before .before .before .before .before .before .before .before .before .rows-step .ensures in
-    rw (c .before .before .before .before .before .before .before .before .before .before .before .before .before .before .before .before .before .if1 .taken) (steps-round (c .swapped .ensures) (p .0), rows-round (c .before .before .before .before .before .before .before .before .before .before .before .before .before .before .before .before .before .before .before .before .before .before .before .before .before .before .pre .0 .field) (p .1))
+returns c =
+    let p = c .before .before .before .before .before .before .before .before .before .rows-step .ensures in
+    rw (c .before .before .before .before .before .before .before .before .before .before .before .before .before .before .if1 .taken) (steps-round (c .swapped .ensures) (p .0), rows-round (c .before .before .before .before .before .before .before .before .before .before .before .before .before .before .before .before .before .before .before .before .pre .0 .field) (p .1))
 
 rows-step-requires-2 : tie.Need-rows-step-requires-2
 rows-step-requires-2 c κs = search needs
+
+same-length-5 : tie.Need-same-length-5
+same-length-5 c = search needs
 
 same-length-6 : tie.Need-same-length-6
 same-length-6 c = search needs
@@ -45,14 +47,8 @@ same-length-7 c = search needs
 same-length-8 : tie.Need-same-length-8
 same-length-8 c = search needs
 
-same-length-9 : tie.Need-same-length-9
-same-length-9 c = search needs
-
-same-length-10 : tie.Need-same-length-10
-same-length-10 c = search needs
-
 returns-2 : tie.Need-returns-2
-returns-2 c = rw (c .before .before .before .before .before .before .before .before .before .before .before .before .before .before .before .before .if1 .left) (c .before .before .before .before .before .before .before .before .before .before .rows-step2 .ensures)
+returns-2 c = rw (c .before .before .before .before .before .before .before .before .before .before .before .before .before .if1 .left) (c .before .before .before .before .before .before .before .before .rows-step2 .ensures)
 
 pub rows-turn-spec : {M : Type 1} → statement M
 rows-turn-spec =
@@ -64,12 +60,10 @@ rows-turn-spec =
     same-length-2
     same-length-3
     same-length-4
-    same-length-5
     returns
     rows-step-requires-2
+    same-length-5
     same-length-6
     same-length-7
     same-length-8
-    same-length-9
-    same-length-10
     returns-2)

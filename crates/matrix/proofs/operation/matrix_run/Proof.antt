@@ -1,28 +1,46 @@
--- L decides whether the places work, and then the rows are written.
-use mathlib.Core.Path.{_∙_, ap}
-use mathlib.Core.Bool.{not}
-use mathlib.Core.List.{[]}
-use Rattle.basics.proofs.Outcomes.{pass, refuse, accept-pair}
-use Rattle.solving.proofs.Link.{no-symbols, is-usable}
+-- The parts of the arrays that are as long as there are points.
+use mathlib.Core.Path.{sym}
+use lib.Seq.{length-take-le}
+use Rattle.solving.proofs.Link.{accepted}
 use borrow.Author.Needs.{needs}
 use Rattle.matrix.proofs.operation.matrix_run.Statement.{statement}
 use Rattle.matrix.proofs.operation.matrix_run.Tie as tie
 
-last-zero-requires : tie.Need-last-zero-requires
-last-zero-requires c κs = search needs
+array-borrow-prefix-px : tie.Need-array-borrow-prefix-px
+array-borrow-prefix-px c = accepted (c .before .before .before .before .before .pre .1 .0) .n-most
 
-returns : tie.Need-returns
-returns c =
-    let pre = c .before .before .before .before .before .before .before .pre in
-    refuse _ (is-usable (pre .1 .0) [] (no-symbols _) (pre .1 .1) (c .before .last-zero .ensures) ∙ ap not (c .if1 .taken))
+slice-aggregate-matrix-in : tie.Need-slice-aggregate-matrix-in
+slice-aggregate-matrix-in c = sym (length-take-le _ _ (accepted (c .before .before .before .before .before .before .pre .1 .0) .n-most))
 
-write-rows-requires : tie.Need-write-rows-requires
-write-rows-requires c κs =
-    let pre = c .before .before .before .before .before .before .before .before .pre in
-    (pre .0, (record { placed = pre .1 .0; full = pre .1 .1; works = is-usable (pre .1 .0) [] (no-symbols _) (pre .1 .1) (c .before .before .last-zero .ensures) ∙ ap not (c .before .if1 .left) }, pre .1 .2))
+array-borrow-prefix-l : tie.Need-array-borrow-prefix-l
+array-borrow-prefix-l c = accepted (c .before .before .before .before .before .before .pre .1 .0) .n-most
 
-clear-room-requires : tie.Need-clear-room-requires
-clear-room-requires c κs = search needs
+slice-aggregate-matrix-in-2 : tie.Need-slice-aggregate-matrix-in-2
+slice-aggregate-matrix-in-2 c = sym (length-take-le _ _ (accepted (c .before .before .before .before .before .before .before .pre .1 .0) .n-most))
+
+array-borrow-prefix-u : tie.Need-array-borrow-prefix-u
+array-borrow-prefix-u c = accepted (c .before .before .before .before .before .before .before .pre .1 .0) .n-most
+
+slice-aggregate-matrix-in-3 : tie.Need-slice-aggregate-matrix-in-3
+slice-aggregate-matrix-in-3 c = sym (length-take-le _ _ (accepted (c .before .before .before .before .before .before .before .before .pre .1 .0) .n-most))
+
+array-borrow-prefix-a : tie.Need-array-borrow-prefix-a
+array-borrow-prefix-a c = accepted (c .before .before .before .before .before .before .before .before .pre .1 .0) .n-most
+
+slice-aggregate-matrix-in-4 : tie.Need-slice-aggregate-matrix-in-4
+slice-aggregate-matrix-in-4 c = sym (length-take-le _ _ (accepted (c .before .before .before .before .before .before .before .before .before .pre .1 .0) .n-most))
+
+array-borrow-prefix-b : tie.Need-array-borrow-prefix-b
+array-borrow-prefix-b c = accepted (c .before .before .before .before .before .before .before .before .before .pre .1 .0) .n-most
+
+slice-aggregate-matrix-in-5 : tie.Need-slice-aggregate-matrix-in-5
+slice-aggregate-matrix-in-5 c = sym (length-take-le _ _ (accepted (c .before .before .before .before .before .before .before .before .before .before .pre .1 .0) .n-most))
+
+matrix-in-requires : tie.Need-matrix-in-requires
+matrix-in-requires c κs =
+    let pre = c .before .before .before .before .before .before .before .before .before .before .before .before .pre in
+    let most = accepted (pre .1 .0) .n-most in
+    (pre .0, (pre .1 .0, pre .1 .1, record { points = length-take-le _ _ most; lows = length-take-le _ _ most; highs = length-take-le _ _ most; firsts = length-take-le _ _ most; seconds = length-take-le _ _ most }, pre .1 .2, pre .1 .3))
 
 same-length : tie.Need-same-length
 same-length c = search needs
@@ -30,20 +48,24 @@ same-length c = search needs
 same-length-2 : tie.Need-same-length-2
 same-length-2 c = search needs
 
-returns-2 : tie.Need-returns-2
-returns-2 c =
-    let pre = c .before .before .before .before .before .before .before .before .before .before .before .before .before .before .before .pre in
-    pass _ (is-usable (pre .1 .0) [] (no-symbols _) (pre .1 .1) (c .before .before .before .before .before .before .before .before .before .last-zero .ensures) ∙ ap not (c .before .before .before .before .before .before .before .before .if1 .left))
-    (accept-pair (c .before .before .before .before .before .before .write-rows .ensures) (c .before .before .clear-room .ensures))
+returns : tie.Need-returns
+returns c = search needs
 
 pub matrix-run-spec : {M : Type 1} → statement M
 matrix-run-spec =
     tie.close
     (tie.spec
-    last-zero-requires
-    returns
-    write-rows-requires
-    clear-room-requires
+    array-borrow-prefix-px
+    slice-aggregate-matrix-in
+    array-borrow-prefix-l
+    slice-aggregate-matrix-in-2
+    array-borrow-prefix-u
+    slice-aggregate-matrix-in-3
+    array-borrow-prefix-a
+    slice-aggregate-matrix-in-4
+    array-borrow-prefix-b
+    slice-aggregate-matrix-in-5
+    matrix-in-requires
     same-length
     same-length-2
-    returns-2)
+    returns)

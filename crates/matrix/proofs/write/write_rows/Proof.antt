@@ -1,63 +1,76 @@
--- The parts of the arrays that are as long as the coordinates, and whole arrays for the rows.
-use mathlib.Core.Path.{sym}
+-- The marks stand in the first bytes of the working space, which are cleared at the end.
+use mathlib.Core.Path.{_≡_, sym, _∙_, ap}
+use Prim.Native.Nat.{_≤_}
+use mathlib.Core.List.{_++_}
 use native.Mathlib.Omega.{arith}
-use lib.Seq.{length-take-le}
-use Rattle.solving.proofs.Link.{accepted}
+use lib.ListN.{length, take, replicate}
+use lib.Seq.{length-take-le, length-front}
+use Rattle.basics.specs.Lists.{table}
+use Rattle.solving.specs.Tests.{room}
+use Rattle.generator.specs.Arranged.{freeAt}
+use Rattle.matrix.proofs.Marks.{written-front, written-drop}
 use borrow.Author.Needs.{needs}
 use Rattle.matrix.proofs.write.write_rows.Statement.{statement}
 use Rattle.matrix.proofs.write.write_rows.Tie as tie
 
-slice-aggregate-rows-in : tie.Need-slice-aggregate-rows-in
-slice-aggregate-rows-in c = search needs
+slice-relend-prefix-mark : tie.Need-slice-relend-prefix-mark
+slice-relend-prefix-mark c = search needs
 
-slice-aggregate-rows-in-2 : tie.Need-slice-aggregate-rows-in-2
-slice-aggregate-rows-in-2 c = search needs
+slice-aggregate-mark : tie.Need-slice-aggregate-mark
+slice-aggregate-mark c = let pre = c .before .before .before .before .before .before .before .before .before .pre .1 in sym (length-take-le _ _ (omega (arith, pre .0 .most, pre .1)))
 
-array-borrow-prefix-l : tie.Need-array-borrow-prefix-l
-array-borrow-prefix-l c = accepted (c .before .before .before .before .before .before .pre .1 .0 .placed) .n-most
+mark-requires : tie.Need-mark-requires
+mark-requires c κs =
+    let s = c .before .before .before .before .before .before .before .before .before in
+    let pre = s .pre .1 in
+    let size : length (take (length (s .args .px .now)) (s .args .work .now)) ≡ length (s .args .px .now) = length-take-le _ _ (omega (arith, pre .0 .most, pre .1)) in
+    (rw size (pre .0 .places), omega (arith, size, pre .0 .most))
 
-slice-aggregate-rows-in-3 : tie.Need-slice-aggregate-rows-in-3
-slice-aggregate-rows-in-3 c = sym (length-take-le _ _ (accepted (c .before .before .before .before .before .before .before .pre .1 .0 .placed) .n-most))
+slice-reshare-prefix-free : tie.Need-slice-reshare-prefix-free
+slice-reshare-prefix-free c = search needs
 
-array-borrow-prefix-u : tie.Need-array-borrow-prefix-u
-array-borrow-prefix-u c = accepted (c .before .before .before .before .before .before .before .pre .1 .0 .placed) .n-most
+slice-aggregate-free : tie.Need-slice-aggregate-free
+slice-aggregate-free c =
+    let s = c .before .before .before .before .before .before .before .before .before .before .before .before .before in
+    let pre = s .pre .1 in
+    sym (length-take-le _ _ (omega (arith, length-front (s .args .work .now) (c .before .before .before .mark .last .1 .0) (length (s .args .px .now)) (c .before .before .before .mark .kept .1 .0), pre .0 .most, pre .1)))
 
-slice-aggregate-rows-in-4 : tie.Need-slice-aggregate-rows-in-4
-slice-aggregate-rows-in-4 c = sym (length-take-le _ _ (accepted (c .before .before .before .before .before .before .before .before .pre .1 .0 .placed) .n-most))
+fill-rows-requires : tie.Need-fill-rows-requires
+fill-rows-requires c κs =
+    let s = c .before .before .before .before .before .before .before .before .before .before .before .before .before .before in
+    let pre = s .pre .1 in
+    let n = length (s .args .px .now) in
+    let fits : n ≤ length (s .args .work .now) = omega (arith, pre .0 .most, pre .1) in
+    (s .pre .0, (pre .0, written-front n (s .args .work .now) fits (c .before .before .before .before .mark .last .1 .0) (c .before .before .before .before .mark .kept .1 .0) ∙ c .before .before .before .before .mark .ensures ∙ ap (table (freeAt (s .args .places .now))) (length-take-le n (s .args .work .now) fits)))
 
-slice-aggregate-rows-in-5 : tie.Need-slice-aggregate-rows-in-5
-slice-aggregate-rows-in-5 c = search needs
-
-slice-aggregate-rows-in-6 : tie.Need-slice-aggregate-rows-in-6
-slice-aggregate-rows-in-6 c = search needs
-
-slice-aggregate-rows-in-7 : tie.Need-slice-aggregate-rows-in-7
-slice-aggregate-rows-in-7 c = search needs
-
-rows-in-requires : tie.Need-rows-in-requires
-rows-in-requires c κs = let pre = c .before .before .before .before .before .before .before .before .before .before .before .before .pre in
-    let most = accepted (pre .1 .0 .placed) .n-most in
-    (pre .0, ((pre .1 .0, length-take-le _ _ most, length-take-le _ _ most, pre .1 .1), (omega arith, omega arith, omega arith, omega arith, omega arith)))
+clear-room-requires : tie.Need-clear-room-requires
+clear-room-requires c κs = search needs
 
 same-length : tie.Need-same-length
 same-length c = search needs
 
+same-length-2 : tie.Need-same-length-2
+same-length-2 c = search needs
+
 returns : tie.Need-returns
-returns c = search needs
+returns c =
+    let s = c .before .before .before .before .before .before .before .before .before .before .before .before .before .before .before .before .before .before .before .before .before in
+    let pre = s .pre .1 in
+    let n = length (s .args .px .now) in
+    let fits : n ≤ length (s .args .work .now) = omega (arith, pre .0 .most, pre .1) in
+    (c .before .before .before .before .before .before .fill-rows .ensures, c .before .before .clear-room .ensures ∙ ap (λ r. replicate room 0 ++ r) (written-drop n room (s .args .work .now) fits (omega (arith, pre .0 .most)) (c .before .before .before .before .before .before .before .before .before .before .before .mark .last .1 .0) (c .before .before .before .before .before .before .before .before .before .before .before .mark .kept .1 .0)))
 
 pub write-rows-spec : {M : Type 1} → statement M
 write-rows-spec =
     tie.close
     (tie.spec
-    slice-aggregate-rows-in
-    slice-aggregate-rows-in-2
-    array-borrow-prefix-l
-    slice-aggregate-rows-in-3
-    array-borrow-prefix-u
-    slice-aggregate-rows-in-4
-    slice-aggregate-rows-in-5
-    slice-aggregate-rows-in-6
-    slice-aggregate-rows-in-7
-    rows-in-requires
+    slice-relend-prefix-mark
+    slice-aggregate-mark
+    mark-requires
+    slice-reshare-prefix-free
+    slice-aggregate-free
+    fill-rows-requires
+    clear-room-requires
     same-length
+    same-length-2
     returns)

@@ -1,0 +1,74 @@
+// The coordinates of all points with those at chosen places in front, so that a loop over the other points needs no test.
+use basics::Place;
+use values::run::index_of;
+ghost use mathlib.Core.Path.{_≡_};
+ghost use Prim.Native.Nat.{_≤_};
+ghost use lib.ListN.{length};
+ghost use Rattle.basics.specs.Lists.{table};
+ghost use Rattle.values.specs.Values.{one};
+ghost use Rattle.generator.specs.Arranged.{freeAt, Places, Gathered, Arrangeable, Arranged};
+
+// Ones: every index is free, and the values of L = 1.
+pub fn fill_ones(out: &mut [u8])
+    ensures { λ _. ⌜ now (out .exit) ≡ table one (length (now (out .entry))) ⌝ }
+{
+    let mut i = 0;
+    while i < out.len() {
+        out[i] = 1;
+        i += 1;
+    }
+}
+
+// 1 at the free indices, 0 at those of the places.
+pub fn mark(places: &[u16], free: &mut [u8])
+    requires { ⌜ Places (length (now free)) (now places) × (length (now free) ≤ 288) ⌝ }
+    ensures { λ _. ⌜ now (free .exit) ≡ table (freeAt (now (places .entry))) (length (now (free .entry))) ⌝ }
+{
+    fill_ones(free);
+    let mut j = 0;
+    while j < places.len() {
+        let place = places[j];
+        let i = index_of(Place(place));
+        free[i] = 0;
+        j += 1;
+    }
+}
+
+// The coordinates at the places, to the front.
+fn gather(places: &[u16], from: &[u8], out: &mut [u8])
+    requires { ⌜ Places (length (now from)) (now places) × (length (now places) ≤ length (now out)) ⌝ }
+    ensures { λ _. ⌜ Gathered (now (from .entry)) (now (places .entry)) (now (out .exit)) ⌝ }
+{
+    let mut j = 0;
+    while j < places.len() {
+        let place = places[j];
+        out[j] = from[index_of(Place(place))];
+        j += 1;
+    }
+}
+
+// The coordinates at the free indices, behind those at the places.
+fn place_rest(places: &[u16], free: &[u8], from: &[u8], out: &mut [u8])
+    requires { ⌜ Arrangeable (now places) (now free) (now from) (now out) ⌝ }
+    requires { ⌜ Gathered (now from) (now places) (now out) ⌝ }
+    ensures { λ _. ⌜ Arranged (now (from .entry)) (now (places .entry)) (length (now (places .entry))) (now (out .exit)) ⌝ }
+{
+    let mut s = places.len();
+    let mut t = 0;
+    while t < from.len() {
+        if free[t] == 1 {
+            out[s] = from[t];
+            s += 1;
+        }
+        t += 1;
+    }
+}
+
+// All coordinates, those at the places first.
+pub fn arrange(places: &[u16], free: &[u8], from: &[u8], out: &mut [u8])
+    requires { ⌜ Arrangeable (now places) (now free) (now from) (now out) ⌝ }
+    ensures { λ _. ⌜ Arranged (now (from .entry)) (now (places .entry)) (length (now (places .entry))) (now (out .exit)) ⌝ }
+{
+    gather(places, from, out);
+    place_rest(places, free, from, out);
+}
