@@ -136,9 +136,41 @@ module _ {m : ℕ} (h : IsField m) where
   pub inverse-index : (a : ℕ) → a < 256 → (logarithm m a ≡ none → ⊥) → (logarithm m a ≡ 0 → ⊥) → (logarithm m a ≤ size m - 1) × (size m - 1 - logarithm m a < 255)
   inverse-index a l n z = (omega (arith, below-period a l n), omega (arith, below-period a l n, size-le h))
 
+  -- the exponents of an element and of its inverse add up to the period
+  inverse-exponent : (a : ℕ) → a < 256 → (logarithm m a ≡ none → ⊥) → pow (product m) (generator m) (size m - 1 - logarithm m a) ≡ inverse m a
+  inverse-exponent a l n =
+      sym (inv-pow (ring h) (row-facts h .even) (generates h) (logarithm m a) (omega (arith, below-period a l n))) ∙ by-remainder a _ (exponent a l n)
+
   pub some-inverse : (a : ℕ) → a < 256 → (logarithm m a ≡ none → ⊥) → (logarithm m a ≡ 0 → ⊥)
       → getD (powerTable m) (size m - 1 - logarithm m a) 0 ≡ inverse m a
-  some-inverse a l n z =
-      power-entry m _ (inverse-index a l n z .1)
-      ∙ sym (inv-pow (ring h) (row-facts h .even) (generates h) (logarithm m a) (inverse-index a l n z .0))
-      ∙ by-remainder a _ (exponent a l n)
+  some-inverse a l n z = power-entry m _ (inverse-index a l n z .1) ∙ inverse-exponent a l n
+
+  -- ---- the cases of the code of a quotient: a is zero, or b, or the exponents subtract, modulo the period
+
+  pub none-over : (a b : ℕ) → a < 256 → logarithm m a ≡ none → 0 ≡ product m a (inverse m b)
+  none-over a b l e = sym (left-zero a (inverse m b) (zero-of-none a l e))
+
+  pub over-none : (a b : ℕ) → b < 256 → logarithm m b ≡ none → 0 ≡ product m a (inverse m b)
+  over-none a b l e = sym (ring h .mul-zero a) ∙ ap (product m a) (none-inverse b l e)
+
+  module _ (a b : ℕ) (ha : a < 256) (hb : b < 256) (na : logarithm m a ≡ none → ⊥) (nb : logarithm m b ≡ none → ⊥) where
+    difference : pow (product m) (generator m) (logarithm m a + (size m - 1 - logarithm m b)) ≡ product m a (inverse m b)
+    difference =
+        let p = pow (product m) (generator m) (size m - 1 - logarithm m b) in
+        pow-add (ring h) (generator m) (logarithm m a) (size m - 1 - logarithm m b) ∙ ap (λ x. product m x p) (exponent a ha na)
+        ∙ left-remainder a p ∙ ap (product m a) (inverse-exponent b hb nb)
+
+    pub quotient-index : (logarithm m b ≤ size m - 1) × (logarithm m a < 255) × (size m ≤ 256)
+    quotient-index = (omega (arith, below-period b hb nb), omega (arith, below-period a ha na, size-le h), size-le h)
+
+    pub over-lower : logarithm m b ≤ logarithm m a → getD (powerTable m) (logarithm m a - logarithm m b) 0 ≡ product m a (inverse m b)
+    over-lower le =
+        let sum = logarithm m a + (size m - 1 - logarithm m b) in
+        let e : logarithm m a - logarithm m b ≡ sum - (size m - 1) = omega (arith, quotient-index) in
+        power-entry m _ (omega (arith, quotient-index)) ∙ ap (pow (product m) (generator m)) e
+        ∙ sym (pow-wrap (ring h) (row-facts h .even) (generates h) sum (omega (arith, quotient-index))) ∙ difference
+
+    pub over-higher : logarithm m a < logarithm m b → getD (powerTable m) (size m - 1 + logarithm m a - logarithm m b) 0 ≡ product m a (inverse m b)
+    over-higher lt =
+        let e : size m - 1 + logarithm m a - logarithm m b ≡ logarithm m a + (size m - 1 - logarithm m b) = omega (arith, quotient-index) in
+        power-entry m _ (omega (arith, quotient-index)) ∙ ap (pow (product m) (generator m)) e ∙ difference

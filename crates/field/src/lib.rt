@@ -125,12 +125,27 @@ pub fn inverse(m: u8, powers: &[u8; 255], logs: &[u8; 256], a: u8) -> u8
     powers[size(m) - 1 - wide(l)]
 }
 
-// a over b.
+// a over b, and 0 where b is 0: the logarithms subtract, modulo the generator's period.
 pub fn quotient(m: u8, powers: &[u8; 255], logs: &[u8; 256], a: u8, b: u8) -> u8
     requires { ⌜ Tables m (now powers) (now logs) ⌝ }
     ensures { λ r. ⌜ r ≡ product m a (inverse m b) ⌝ }
 {
-    product(m, powers, logs, a, inverse(m, powers, logs, b))
+    let by_a = logarithm(m, logs, a);
+    let by_b = logarithm(m, logs, b);
+    if by_a == NONE {
+        return 0;
+    }
+    if by_b == NONE {
+        return 0;
+    }
+    let period = size(m) - 1;
+    let i = wide(by_a);
+    let j = wide(by_b);
+    if j <= i {
+        powers[i - j]
+    } else {
+        powers[period + i - j]
+    }
 }
 
 fn fill_products(m: u8, powers: &[u8; 255], logs: &[u8; 256], a: &[u8], b: &[u8], out: &mut [u8])
