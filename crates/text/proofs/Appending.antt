@@ -110,4 +110,4 @@ joined-few (a ∷ l) = omega (arith, length-append (decimal a) (following l), di
 
 pub line-few : (key l : List ℕ) → length (lineOf key l) ≤ length key + 6 * length l + 1
 unfolding lineOf
-line-few key l = omega (arith, length-append key (joined l ++ lineEnd ∷ []), length-append (joined l) (lineEnd ∷ []), joined-few l)
+line-few key l = simp length-append (omega (arith, joined-few l))

@@ -18,7 +18,7 @@ heard-requires c κs = search needs
 status-requires : tie.Need-status-requires
 status-requires c κs =
     let s = c .before .before .before .before .before .before .before .before .before in
-    rw (c .before .before .heard .ensures .answers) (heard-counts (codeOf (c .before .before .before .before .parameters .result) (s .args .xs .now) (s .args .ys .now)) (s .args .mask .now) (s .args .out .now))
+    rw (c .before .before .heard .ensures .answers) (heard-counts (codeOf (c .before .before .before .before .parameters .result) _ _) (s .args .mask .now) (s .args .out .now))
 
 same-length : tie.Need-same-length
 same-length c = search needs

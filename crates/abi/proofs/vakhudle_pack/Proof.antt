@@ -19,7 +19,7 @@ pack-requires c κs = search needs
 status-requires : tie.Need-status-requires
 status-requires c κs =
     let s = c .before .before .before .before .before .before .before .before in
-    rw (c .before .before .pack .ensures .answers) (pack-counts (codeOf (c .before .before .before .before .parameters .result) (s .args .xs .now) (s .args .ys .now)) (s .args .means .now) (length (s .args .out .now)))
+    rw (c .before .before .pack .ensures .answers) (pack-counts (codeOf (c .before .before .before .before .parameters .result) _ _) (s .args .means .now) (length (s .args .out .now)))
 
 same-length : tie.Need-same-length
 same-length c = search needs

@@ -18,7 +18,7 @@ pick-requires c κs = search needs
 status-requires : tie.Need-status-requires
 status-requires c κs =
     let s = c .before .before .before .before .before .before .before .before .before .before .before .before .before in
-    rw (c .before .before .before .before .pick .ensures .answers) (pick-counts (codeOf (c .before .before .before .before .before .before .before .parameters .result) (s .args .xs .now) (s .args .ys .now)) (s .args .ranked .now) (s .args .out .now) (s .args .work .now))
+    rw (c .before .before .before .before .pick .ensures .answers) (pick-counts (codeOf (c .before .before .before .before .before .before .before .parameters .result) _ _) (s .args .ranked .now) (s .args .out .now) (s .args .work .now))
 
 same-length : tie.Need-same-length
 same-length c = search needs

@@ -19,7 +19,7 @@ plain-requires c κs = search needs
 status-requires : tie.Need-status-requires
 status-requires c κs =
     let s = c .before .before .before .before .before .before .before .before .before in
-    rw (c .before .before .plain .ensures .answers) (plain-counts (codeOf (c .before .before .before .before .parameters .result) (s .args .xs .now) (s .args .ys .now)) (s .args .coefficients .now) (length (s .args .out .now)))
+    rw (c .before .before .plain .ensures .answers) (plain-counts (codeOf (c .before .before .before .before .parameters .result) _ _) (s .args .coefficients .now) (length (s .args .out .now)))
 
 same-length : tie.Need-same-length
 same-length c = search needs

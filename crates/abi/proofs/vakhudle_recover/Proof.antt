@@ -18,7 +18,7 @@ recover-requires c κs = search needs
 status-requires : tie.Need-status-requires
 status-requires c κs =
     let s = c .before .before .before .before .before .before .before .before .before .before .before .before .before in
-    rw (c .before .before .before .before .recover .ensures .answers) (recover-counts (codeOf (c .before .before .before .before .before .before .before .parameters .result) (s .args .xs .now) (s .args .ys .now)) (s .args .symbols .now) (s .args .out .now) (s .args .work .now))
+    rw (c .before .before .before .before .recover .ensures .answers) (recover-counts (codeOf (c .before .before .before .before .before .before .before .parameters .result) _ _) (s .args .symbols .now) (s .args .out .now) (s .args .work .now))
 
 same-length : tie.Need-same-length
 same-length c = search needs

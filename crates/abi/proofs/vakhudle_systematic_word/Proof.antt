@@ -18,7 +18,7 @@ systematic-word-requires c κs = search needs
 status-requires : tie.Need-status-requires
 status-requires c κs =
     let s = c .before .before .before .before .before .before .before .before .before .before .before .before .before .before in
-    rw (c .before .before .before .before .systematic-word .ensures .answers) (systematic-word-counts (codeOf (c .before .before .before .before .before .before .before .parameters .result) (s .args .xs .now) (s .args .ys .now)) (s .args .places .now) (s .args .message .now) (s .args .out .now) (s .args .work .now))
+    rw (c .before .before .before .before .systematic-word .ensures .answers) (systematic-word-counts (codeOf (c .before .before .before .before .before .before .before .parameters .result) _ _) (s .args .places .now) (s .args .message .now) (s .args .out .now) (s .args .work .now))
 
 same-length : tie.Need-same-length
 same-length c = search needs
