@@ -1,0 +1,5 @@
+-- The three demands as theorems.
+pub mod Passing
+pub mod Ones
+pub mod Rows
+pub mod Demand3

@@ -1,0 +1,3 @@
+-- The three demands, as statements about calls of the operations.
+pub mod Call
+pub mod Demand3
