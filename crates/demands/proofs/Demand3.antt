@@ -7,32 +7,31 @@ use mathlib.Core.Logic.{inl, inr, _⊎_, ⊎-elim, _↔_}
 use mathlib.Core.List.{List, [], _∷_}
 use native.Mathlib.Omega.{arith}
 use lib.Dec.{eqb}
-use lib.ListN.{length, getD, take}
+use lib.ListN.{length, take}
 use borrow.Author.Tests.{eq-eqb, ne-eqb, le-leb, not-false}
 use Rattle.basics.specs.declared.Answer.{Answer}
 use Rattle.basics.specs.declared.Answer.the-variants.{Done, Refused}
 use Rattle.basics.specs.declared.Refusal.{Refusal}
 use Rattle.basics.specs.declared.Refusal.the-variants.{Length, Dependent, TooFew, NoCodeword, Independent}
 use Rattle.basics.specs.Outcome.{Outcome, accepted, check, Meets}
-use Rattle.basics.proofs.Lists.{both-true, both-left, both-right, length-table}
+use Rattle.basics.proofs.Lists.{both-true, both-left, both-right}
 use Rattle.basics.proofs.Outcomes.{meets-as}
 use Rattle.elliptic.specs.Functions.{nonzero}
-use Rattle.elliptic.proofs.Points.{All, all-of}
 use Rattle.codewords.specs.Code.{Code, n, codeAnswer, checkCode}
-use Rattle.codewords.specs.Codewords.{index, unitMessage, places, choice, symbols, message, functions, agreeing, count, agreed, systematicWord, matrix, row, zeroOn, dependent, usable, relation, pick}
+use Rattle.codewords.specs.Codewords.{index, unitMessage, places, choice, symbols, message, functions, agreeing, count, agreed, systematicWord, matrix, zeroOn, dependent, usable, relation, pick}
 use Rattle.codewords.specs.Demand3.{Systematic}
 use Rattle.codewords.proofs.Tests.{fails, not-both, any-false, true-any}
 use Rattle.codewords.proofs.Accepted.{accepted-done}
 use Rattle.codewords.proofs.Places.{choice-length, message-listed}
 use Rattle.codewords.proofs.Choice.{usable-true, dependent-usable}
 use Rattle.codewords.proofs.Demand3.{demand3 as on-codewords, unit-message}
-use Rattle.coder.specs.Outcomes.{Lent, cleared, joined, checkLength, checkRoom, checkPlaces, checkSymbols}
+use Rattle.coder.specs.Outcomes.{Lent, cleared, checkLength, checkRoom, checkPlaces, checkSymbols}
 use Rattle.coder.specs.Outcomes.{systematicFunctionOutcome, systematicWordOutcome, matrixOutcome, relationOutcome, pickOutcome, rebuildOutcome}
 use Rattle.demands.specs.Call.{Call, Of, Fits}
 use Rattle.demands.specs.Demand3.{Demand3, OneWord, OneFunction, OneRelation, UnlessDependent, IfDependent, PickedMore, RebuiltMore, rowOf}
 use Rattle.demands.proofs.Passing.{Decided, decided, accepted-on, on, code-on, length-on, places-on, symbols-on, fits-on, choice-are-places, message-symbols, places-most}
-use Rattle.demands.proofs.Ones.{one-word, one-agreed, agreed-some, codeword-length, in-message, message-in, the-function, the-relation}
-use Rattle.demands.proofs.Rows.{joined-row}
+use Rattle.demands.proofs.Ones.{one-word, one-agreed, agreed-some, in-message, message-in, the-function, the-relation}
+use Rattle.demands.proofs.Rows.{the-rows}
 
 -- ---- the last tests
 
@@ -150,29 +149,12 @@ module _ (code : Code) (done : codeAnswer code ≡ Done) where
         full = choice-length code J j
 
   module _ (J : List ℕ) (c : Call) (j : choice code J ≡ true) where
-    -- each row is a codeword of its own, of n symbols
-    module _ (u : usable code J ≡ true) where
-      row-word : (i : ℕ) → i < code .k → OneWord code J (unitMessage (code .k) (index i)) (getD (matrix code J) i [])
-      row-word i l = one-word code J (unitMessage (code .k) (index i)) (on-codewords code done .rows J j u i l)
-
-      row-count : length (matrix code J) ≡ code .k
-      unfolding matrix
-      row-count = length-table (λ i. row code J (index i)) (code .k)
-
-      row-lengths : All (λ r. length r ≡ n code) (matrix code J)
-      row-lengths = all-of [] (matrix code J) (λ i l. codeword-length code done _ (row-word i (omega (arith, row-count)) .is-codeword))
-
-      the-rows : (i : ℕ) → i < code .k → OneWord code J (unitMessage (code .k) (index i)) (rowOf (n code) i (joined (matrix code J)))
-      the-rows i l =
-          subst (OneWord code J (unitMessage (code .k) (index i)))
-          (sym (joined-row (n code) (matrix code J) row-lengths i (omega (arith, row-count)))) (row-word i l)
-
     matrix-call : Of (matrixOutcome code J) c → Fits (code .k * n code) c
         → UnlessDependent code J (λ out. (i : ℕ) → i < code .k → OneWord code J (unitMessage (code .k) (index i)) (rowOf (n code) i out)) c
     matrix-call h f =
         unless code J _ c
         (decided (usable code J) (places-on code J (choice-are-places code J j) (fits-on f (length-on J (choice-length code J j) (code-on code done h)))))
-        the-rows
+        (the-rows code done J j)
 
     relation-call : Of (relationOutcome code J) c → Fits (code .k) c → IfDependent code J (OneRelation code J) c
     relation-call h f =

@@ -3,3 +3,5 @@ pub mod Passing
 pub mod Ones
 pub mod Rows
 pub mod Demand3
+pub mod Order
+pub mod Demand1

@@ -11,7 +11,7 @@ use Rattle.basics.specs.Lists.{same}
 use Rattle.basics.proofs.Lists.{both-left, both-right, both-true, same-true, same-refl}
 use Rattle.elliptic.specs.Functions.{leading}
 use Rattle.codewords.specs.Code.{Code, n, codeAnswer}
-use Rattle.codewords.specs.Codewords.{agrees, message, functions, word, codewords, codeword, coefficients, agreeing, count, agreed, agreeingFunctions, systematicFunction, systematicWord, zeroOn, relations, relation}
+use Rattle.codewords.specs.Codewords.{the, agrees, message, functions, word, codewords, codeword, coefficients, agreeing, count, agreed, agreeingFunctions, systematicFunction, systematicWord, zeroOn, relations, relation}
 use Rattle.codewords.specs.Demand3.{Systematic, Related}
 use Rattle.codewords.proofs.Tests.{any-true, true-any, filter-in, in-filter}
 use Rattle.codewords.proofs.Demand2.{demand2}
@@ -25,17 +25,26 @@ module _ {A : Type 0} {a : A} {l : List A} (e : l ≡ a ∷ []) where
   pub in-one : {b : A} → In b l → b ≡ a
   in-one {b} i = in-single (subst (λ l. In b l) e i)
 
+pub the-in : (l : List (List ℕ)) → (l ≡ [] → ⊥) → In (the l) l
+unfolding the
+the-in [] h = absurd (h refl)
+the-in (a ∷ l) h = here refl
+
+pub in-codeword : (code : Code) {w : List ℕ} → In w (codewords code) → codeword code w ≡ true
+unfolding codeword
+in-codeword code {w} i = true-any (same w) i (same-refl w)
+
 module _ (code : Code) (J msg : List ℕ) where
   codeword-in : (v : List ℕ) → codeword code v ≡ true → In v (codewords code)
   unfolding codeword
   codeword-in v h = let (u, i, s) = any-true (same v) (codewords code) h in subst (λ u. In u (codewords code)) (sym (same-true v u s)) i
 
   pub one-word : {w : List ℕ} → agreeing code J msg ≡ w ∷ [] → OneWord code J msg w
-  unfolding agreeing codeword count
+  unfolding agreeing count
   one-word {w} e =
       let (i, a) = filter-in (λ w. agrees w J msg) (codewords code) (one-in e) in
       record {
-        is-codeword = true-any (same w) i (same-refl w);
+        is-codeword = in-codeword code i;
         agreeing = a;
         only = λ v h g. in-one e (in-filter (λ w. agrees w J msg) (codeword-in v h) g);
         one = ap length e;

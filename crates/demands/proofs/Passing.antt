@@ -9,10 +9,10 @@ use lib.Dec.{eqb}
 use lib.ListN.{length, length-map}
 use borrow.Author.Tests.{eq-eqb, le-leb}
 use Rattle.basics.specs.declared.Answer.{Answer}
-use Rattle.basics.specs.declared.Answer.the-variants.{Done, Refused}
+use Rattle.basics.specs.declared.Answer.the-variants.{Done, Counted, Refused}
 use Rattle.basics.specs.declared.Refusal.{Refusal}
 use Rattle.basics.specs.declared.Refusal.the-variants.{Length, Place, RepeatedPlace, Symbol}
-use Rattle.basics.specs.Outcome.{Outcome, accepted, check, answer, left, Meets}
+use Rattle.basics.specs.Outcome.{Outcome, accepted, counted, check, answer, left, Meets}
 use Rattle.basics.proofs.Lists.{both-left, both-right, length-table}
 use Rattle.codewords.specs.Code.{Code, n, codeAnswer, checkCode}
 use Rattle.codewords.specs.Codewords.{below, allPlaces, placesDiffer, places, choice, symbols, message}
@@ -81,3 +81,7 @@ decided false m = record { refuses = (λ h. refl, λ h. m .answers); done = (λ 
 pub accepted-on : {M : Type 0} {l : M} {r : Answer} {old new : M} → Meets (accepted l) r old new → (r ≡ Done) × (new ≡ l)
 unfolding answer left
 accepted-on m = (m .answers, m .leaves)
+
+pub counted-on : {M : Type 0} {k : ℕ} {l : M} {r : Answer} {old new : M} → Meets (counted k l) r old new → (r ≡ Counted k) × (new ≡ l)
+unfolding answer left
+counted-on m = (m .answers, m .leaves)

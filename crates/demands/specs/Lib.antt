@@ -1,3 +1,5 @@
 -- The three demands, as statements about calls of the operations.
 pub mod Call
+pub mod Order
+pub mod Demand1
 pub mod Demand3
