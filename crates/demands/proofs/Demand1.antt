@@ -11,7 +11,7 @@ use borrow.Author.Tests.{eqb-true, eqb-false, leb-true}
 use Rattle.basics.specs.declared.Answer.{Answer}
 use Rattle.basics.specs.declared.Answer.the-variants.{Done, Counted}
 use Rattle.basics.specs.Bits.{word as wordAt}
-use Rattle.basics.specs.Lists.{written, table, same}
+use Rattle.basics.specs.Lists.{written, table}
 use Rattle.basics.specs.Outcome.{accepted, counted, answer, counts, Meets}
 use Rattle.basics.proofs.Lists.{both-left, both-right, both-true, length-table, length-filter}
 use Rattle.field.specs.Galois.{galois, width}
@@ -19,7 +19,7 @@ use Rattle.elliptic.specs.declared.Curve.{Curve}
 use Rattle.elliptic.specs.declared.Point.{Point}
 use Rattle.elliptic.specs.Curve.{affinePoints}
 use Rattle.codewords.specs.Code.{Code, n, codeAnswer}
-use Rattle.codewords.specs.Codewords.{agrees, allPlaces, placesDiffer, places, choice, symbols, message, functions, word, codewords, codeword, coefficients, recovered, agreeing, agreed}
+use Rattle.codewords.specs.Codewords.{agrees, allPlaces, placesDiffer, places, choice, symbols, message, codewords, codeword, recovered, agreeing, agreed}
 use Rattle.codewords.specs.Codewords.{systematicFunction, systematicWord, matrix, dependent, usable, relation, pick}
 use Rattle.codewords.specs.Demand3.{Systematic}
 use Rattle.codewords.proofs.Tests.{filter-in}
@@ -38,7 +38,7 @@ use Rattle.demands.specs.Call.{Call, Of}
 use Rattle.demands.specs.Order.{Test, first, numbers, codeTests, pointsTests, heardTests, jobTests, sheetTests}
 use Rattle.demands.specs.Demand1.{Answers, Filled, Listed, Worked, PointsAnswers, Works, listedPoints, Demand1}
 use Rattle.demands.proofs.Passing.{accepted-on, counted-on}
-use Rattle.demands.proofs.Ones.{one-word, one-in, the-in, in-codeword, agreed-some, in-message, codeword-length, the-function}
+use Rattle.demands.proofs.Ones.{one-word, is-recovered, the-in, in-codeword, agreed-some, codeword-length, the-function}
 use Rattle.demands.proofs.Rows.{joined-length, row-lengths, row-count}
 use Rattle.demands.proofs.Order.{Hold, inOrder, first-hold, order-answer, answers, code-answers, accepts-accepted, accepts-counted}
 
@@ -121,10 +121,7 @@ module _ (code : Code) (done : codeAnswer code ≡ Done) where
       (in-codeword code (filter-in (λ w. agrees w J us) (codewords code) (the-in (agreeing code J us) (agreed-some code J us h)) .0))
 
   recovered-length : (w : List ℕ) → codeword code w ≡ true → length (recovered code w) ≡ code .k
-  unfolding coefficients
-  recovered-length w h =
-      function-length (recovered code w)
-      (in-message code done (filter-in (λ f. same (word code f) w) (functions code) (one-in (demand2 code done .one-list w h)) .0))
+  recovered-length w h = function-length (recovered code w) (is-recovered code done w h)
 
   pick-length : (J : List ℕ) → places code J ≡ true → code .k ≤ length J → not (eqb (length J) (code .k) && dependent code J) ≡ true → length (pick code J) ≡ code .k
   unfolding usable choice

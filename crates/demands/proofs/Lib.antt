@@ -5,3 +5,4 @@ pub mod Rows
 pub mod Demand3
 pub mod Order
 pub mod Demand1
+pub mod Demand2

@@ -11,7 +11,7 @@ use Rattle.basics.specs.Lists.{same}
 use Rattle.basics.proofs.Lists.{both-left, both-right, both-true, same-true, same-refl}
 use Rattle.elliptic.specs.Functions.{leading}
 use Rattle.codewords.specs.Code.{Code, n, codeAnswer}
-use Rattle.codewords.specs.Codewords.{the, agrees, message, functions, word, codewords, codeword, coefficients, agreeing, count, agreed, agreeingFunctions, systematicFunction, systematicWord, zeroOn, relations, relation}
+use Rattle.codewords.specs.Codewords.{the, agrees, message, functions, word, codewords, codeword, coefficients, recovered, agreeing, count, agreed, agreeingFunctions, systematicFunction, systematicWord, zeroOn, relations, relation}
 use Rattle.codewords.specs.Demand3.{Systematic, Related}
 use Rattle.codewords.proofs.Tests.{any-true, true-any, filter-in, in-filter}
 use Rattle.codewords.proofs.Demand2.{demand2}
@@ -73,6 +73,11 @@ module _ (code : Code) (done : codeAnswer code ≡ Done) where
 
   pub codeword-length : (w : List ℕ) → codeword code w ≡ true → length w ≡ n code
   codeword-length w h = ap length (sym (demand2 code done .word-recovered w h)) ∙ demand2 code done .word-length _
+
+  -- what Recover gives is a function
+  pub is-recovered : (w : List ℕ) → codeword code w ≡ true → message code (recovered code w) ≡ true
+  unfolding coefficients
+  is-recovered w h = in-message (filter-in (λ f. same (word code f) w) (functions code) (one-in (demand2 code done .one-list w h)) .0)
 
   module _ (J : List ℕ) where
     pub the-function : (msg : List ℕ) → Systematic code J msg → OneFunction code J msg (systematicFunction code J msg)

@@ -2,4 +2,5 @@
 pub mod Call
 pub mod Order
 pub mod Demand1
+pub mod Demand2
 pub mod Demand3
