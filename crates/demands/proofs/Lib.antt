@@ -7,3 +7,4 @@ pub mod Order
 pub mod Demand1
 pub mod Demand2
 pub mod Blocks
+pub mod Starred
