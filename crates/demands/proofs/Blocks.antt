@@ -29,7 +29,7 @@ use Rattle.demands.specs.Blocks.{Blocks, Packs, Unpacks}
 use Rattle.demands.proofs.Passing.{Decided, decided, accepted-on, on, code-on}
 
 -- the width of field m is m, by a test of all seven
-width-is : (m : ℕ) → IsField m → width m ≡ m
+pub width-is : (m : ℕ) → IsField m → width m ≡ m
 unfolding width rows
 width-is m (least, most) =
     let back : m - 2 + 2 ≡ m = omega arith in

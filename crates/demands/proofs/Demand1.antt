@@ -39,6 +39,7 @@ use Rattle.demands.specs.Order.{Test, first, numbers, codeTests, pointsT
 use Rattle.demands.specs.Demand1.{Answers, Filled, Listed, Worked, PointsAnswers, Works, listedPoints, Demand1}
 use Rattle.demands.proofs.Passing.{accepted-on, counted-on}
 use Rattle.demands.proofs.Ones.{one-word, is-recovered, the-in, in-codeword, agreed-some, codeword-length, the-function}
+use Rattle.demands.proofs.AllPoints.{all-points}
 use Rattle.demands.proofs.Rows.{joined-length, row-lengths, row-count}
 use Rattle.demands.proofs.Order.{Hold, inOrder, first-hold, order-answer, answers, code-answers, accepts-accepted, accepts-counted}
 
@@ -189,6 +190,7 @@ pub demand1 : Demand1
 demand1 =
     record {
       points = points-call;
+      points-all = all-points;
       means = λ ts rs h r old new. answers _ _ _ refl (accepts-accepted _) (λ p. filled (length-table (meanAt ts rs h) (length old)));
       plain = λ code f r old new.
           code-answers code _ _ _ refl (accepts-accepted _) (λ done (a, (b, c)). filled (demand2 code done .word-length f ∙ sym (eqb-true _ _ b)));

@@ -1,10 +1,12 @@
--- The three demands as theorems.
-pub mod Passing
-pub mod Ones
-pub mod Rows
-pub mod Demand3
-pub mod Order
+-- The three demands as theorems, of calls by their contracts, and the starred cases.
+mod Passing
+mod Ones
+mod Rows
+mod Order
+pub mod Blocks
+pub mod AllPoints
 pub mod Demand1
 pub mod Demand2
-pub mod Blocks
+pub mod Demand3
 pub mod Starred
+pub mod Exports

@@ -1,6 +1,6 @@
 -- Demand 1: "Every accepted call writes its whole output and no other byte but its working space. Every refused call gives the first number that
 -- applies in document 01's order, and changes no lent byte." That every call ends without a fault is what the check of each function says.
-use Prim.Native.Nat.{ℕ}
+use Prim.Native.Nat.{ℕ, _≤_}
 use mathlib.Core.Path.{_≡_}
 use mathlib.Core.Logic.{_↔_}
 use mathlib.Core.List.{List, [], _∷_, _++_, map}
@@ -79,6 +79,8 @@ PointsAnswers m C r xs ys xs′ ys′ =
 pub record Demand1 : Type 0 where
   pub points : (m : ℕ) (C : Curve) (r : Answer) (xs ys xs′ ys′ : List ℕ) → Meets (pointsOutcome m C xs ys) r (xs, ys) (xs′, ys′)
       → PointsAnswers m C r xs ys xs′ ys′
+  -- "all affine points": for m up to 7 none is cut off. For m = 8 that is Hasse's bound, which is not proved
+  pub points-all : (m : ℕ) (C : Curve) → 2 ≤ m → m ≤ 7 → listedPoints m C ≡ affinePoints (galois m) C
   pub means : (stamps : List ℕ) (readings : List ℤ) (hour : ℕ) (r : Answer) (old new : List ℤ) → Meets (meansOutcome stamps readings hour (length old)) r old new
       → Fills (8 ∷ 19 ∷ 18 ∷ 19 ∷ 16 ∷ []) (meansTests stamps readings hour (length old)) (table (meanAt stamps readings hour) (length old)) r old new
   pub plain : (code : Code) (f : List ℕ) (r : Answer) (old new : List ℕ) → Meets (plainOutcome code f (length old)) r old new
