@@ -17,14 +17,15 @@ use Rattle.basics.specs.Bits.{value, word, isWord, isZero}
 use Rattle.basics.specs.Lists.{all, table}
 use Rattle.basics.specs.Outcome.{Outcome, refused, accepted, counted, answer, left, Meets}
 use Rattle.basics.proofs.BitLists.{zero-join}
-use Rattle.basics.proofs.Lists.{both-left, both-right, all-replicate, all-take, all-drop, all-get, length-table, table-as, is-table, getD-table, getD-zeros}
+use Rattle.basics.proofs.Lists.{both-left, both-right, both-true, all-replicate, all-take, all-drop, all-get, length-table, table-as, is-table, getD-table, getD-zeros}
 use Rattle.basics.proofs.Outcomes.{passed}
-use Rattle.field.specs.Galois.{rows, width, IsField}
+use Rattle.field.specs.Galois.{rows, width, IsField, size}
 use Rattle.codewords.specs.Code.{Code, codeAnswer}
+use Rattle.codewords.specs.Codewords.{symbols, message}
 use Rattle.codewords.proofs.Tests.{fails, not-both}
 use Rattle.codewords.proofs.Accepted.{accepted-done}
 use Rattle.hours.specs.Packing.{capacity, packOutcome, unpackOutcome, packed, unpacked, clean, stream, Writes}
-use Rattle.hours.proofs.Unpacking.{unpack-pack, pack-unpack, clean-exactly}
+use Rattle.hours.proofs.Unpacking.{packed-words, unpack-pack, pack-unpack, clean-exactly}
 use Rattle.demands.specs.Blocks.{Blocks, Packs, Unpacks}
 use Rattle.demands.proofs.Passing.{Decided, decided, accepted-on, on, code-on}
 
@@ -92,6 +93,17 @@ module _ (code : Code) (done : codeAnswer code ≡ Done) where
       let (c, d) = passed Reading b in
       let same : packed w means k ≡ block = cc d in
       ap length (sym same) ∙ length-table (word w (stream means k)) k
+
+  -- the block is a message
+  pub packed-message : (means : List ℤ) (old block : List ℕ) → Packs code means Done old block → message code block ≡ true
+  unfolding message symbols size
+  packed-message means old block p =
+      let (long, out) = packed-by means old block p in
+      let (fit, b) = passed Length out in
+      let (va, d) = passed Reading b in
+      let same : packed w means (length old) ≡ block = cc d in
+      both-true (symbols code block) (eqb (length block) (code .k))
+      (subst (λ l. all (isWord w) l ≡ true) same (packed-words w means (length old) small fit va)) (ap (λ n. eqb n (code .k)) (block-length means (length old) block out) ∙ long)
 
   unpacks : (means : List ℤ) (old block : List ℕ) (r : Answer) (old′ new : List ℤ) → Packs code means Done old block → Unpacks code block r old′ new
       → length old′ ≡ length means → (r ≡ Done) × (new ≡ means)

@@ -8,5 +8,6 @@ pub mod AllPoints
 pub mod Demand1
 pub mod Demand2
 pub mod Demand3
+pub mod Day
 pub mod Starred
 pub mod Exports

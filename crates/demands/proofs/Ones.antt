@@ -34,11 +34,11 @@ pub in-codeword : (code : Code) {w : List ℕ} → In w (codewords code) → cod
 unfolding codeword
 in-codeword code {w} i = true-any (same w) i (same-refl w)
 
-module _ (code : Code) (J msg : List ℕ) where
-  codeword-in : (v : List ℕ) → codeword code v ≡ true → In v (codewords code)
-  unfolding codeword
-  codeword-in v h = let (u, i, s) = any-true (same v) (codewords code) h in subst (λ u. In u (codewords code)) (sym (same-true v u s)) i
+pub codeword-in : (code : Code) (v : List ℕ) → codeword code v ≡ true → In v (codewords code)
+unfolding codeword
+codeword-in code v h = let (u, i, s) = any-true (same v) (codewords code) h in subst (λ u. In u (codewords code)) (sym (same-true v u s)) i
 
+module _ (code : Code) (J msg : List ℕ) where
   pub one-word : {w : List ℕ} → agreeing code J msg ≡ w ∷ [] → OneWord code J msg w
   unfolding agreeing count
   one-word {w} e =
@@ -46,7 +46,7 @@ module _ (code : Code) (J msg : List ℕ) where
       record {
         is-codeword = in-codeword code i;
         agreeing = a;
-        only = λ v h g. in-one e (in-filter (λ w. agrees w J msg) (codeword-in v h) g);
+        only = λ v h g. in-one e (in-filter (λ w. agrees w J msg) (codeword-in code v h) g);
         one = ap length e;
       }
 
