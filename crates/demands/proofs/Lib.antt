@@ -1,0 +1,13 @@
+-- The three demands as theorems, of calls by their contracts, and the starred cases.
+mod Passing
+mod Ones
+mod Rows
+mod Order
+pub mod Blocks
+pub mod AllPoints
+pub mod Demand1
+pub mod Demand2
+pub mod Demand3
+pub mod Day
+pub mod Starred
+pub mod Exports

@@ -1,0 +1,113 @@
+-- Demand 1: "Every accepted call writes its whole output and no other byte but its working space. Every refused call gives the first number that
+-- applies in document 01's order, and changes no lent byte." That every call ends without a fault is what the check of each function says.
+use Prim.Native.Nat.{ℕ, _≤_}
+use mathlib.Core.Path.{_≡_}
+use mathlib.Core.Logic.{_↔_}
+use mathlib.Core.List.{List, [], _∷_, _++_, map}
+use lib.IntN.{ℤ}
+use lib.ListN.{length, take, drop, replicate}
+use Rattle.basics.specs.declared.Refusal.{Refusal}
+use Rattle.basics.specs.declared.Answer.{Answer}
+use Rattle.basics.specs.declared.Answer.the-variants.{Done, Counted, Refused}
+use Rattle.basics.specs.Lists.{table}
+use Rattle.basics.specs.Outcome.{answer, Meets}
+use Rattle.field.specs.Galois.{galois, width}
+use Rattle.elliptic.specs.declared.Curve.{Curve}
+use Rattle.elliptic.specs.declared.Point.{Point}
+use Rattle.elliptic.specs.Curve.{affinePoints}
+use Rattle.codewords.specs.Code.{Code, n}
+use Rattle.codewords.specs.Codewords.{word, recovered, systematicFunction, systematicWord, matrix, relation, pick}
+use Rattle.curve.specs.Points.{pointsOutcome, room as pointRoom}
+use Rattle.code.specs.Heard.{heardPlaces, heardOutcome}
+use Rattle.hours.specs.Means.{meanAt, meansOutcome}
+use Rattle.hours.specs.Packing.{packed, unpacked}
+use Rattle.blocks.specs.Outcomes.{plainOutcome, packBlockOutcome, unpackBlockOutcome}
+use Rattle.solving.specs.Tests.{Lent, room}
+use Rattle.coder.specs.Outcomes.{joined}
+use Rattle.coder.specs.Outcomes.{recoverOutcome, systematicFunctionOutcome, systematicWordOutcome, matrixOutcome, relationOutcome, pickOutcome, rebuildOutcome}
+use Rattle.text.specs.Reading.{Sheet}
+use Rattle.sheet.specs.Job.{codeFor, jobOutcome, answerTo, Answers as AnswersSheet}
+use Rattle.demands.specs.Call.{Call, Of}
+use Rattle.demands.specs.Order.{Test, first, numbers, pointsTests, meansTests, plainTests, packTests, unpackTests, heardTests}
+use Rattle.demands.specs.Order.{recoverTests, systematicTests, matrixTests, relationTests, pickTests, rebuildTests, jobTests, sheetTests}
+
+-- the answer r, with lent memory from old to new, of a call that has the tests ts, whose numbers are ns
+pub record Answers {M : Type 0} (ns : List ℕ) (ts : List Test) (r : Answer) (old new : M) (whole : Type 0) : Type 0 where
+  pub order : numbers ts ≡ ns
+  pub refused : (e : Refusal) → (r ≡ Refused e) ↔ (first ts ≡ Refused e)
+  pub unchanged : (e : Refusal) → r ≡ Refused e → new ≡ old
+  pub accepted : first ts ≡ Done → whole
+
+-- an output that is written whole: what it holds is l, whatever was there
+pub record Filled {A : Type 0} (l : List A) (r : Answer) (old new : List A) : Type 0 where
+  pub done : r ≡ Done
+  pub written : new ≡ l
+  pub whole : length l ≡ length old
+
+-- a list at the front of a buffer, with its count; past it nothing changes
+pub record Listed (l : List ℕ) (r : Answer) (old new : List ℕ) : Type 0 where
+  pub counted : r ≡ Counted (length l)
+  pub front : take (length l) new ≡ l
+  pub rest : drop (length l) new ≡ drop (length l) old
+  pub whole : length new ≡ length old
+
+-- an output that is written whole, and a working space whose first 8,192 bytes are zero and the rest untouched
+pub record Worked (l : List ℕ) (c : Call) : Type 0 where
+  pub output : Filled l (c .answer) (c .out) (c .out-after)
+  pub zeros : take room (c .work-after) ≡ replicate room 0
+  pub untouched : drop room (c .work-after) ≡ drop room (c .work)
+  pub whole : length (c .work-after) ≡ length (c .work)
+
+-- of an operation that is lent one list, and of one that is lent a working space too
+abbrev pub Fills : {A : Type 0} → List ℕ → List Test → List A → Answer → List A → List A → Type 0
+Fills ns ts l r old new = Answers ns ts r old new (Filled l r old new)
+
+abbrev pub Works : List ℕ → List Test → List ℕ → Call → Type 0
+Works ns ts l c = Answers {M = Lent} ns ts (c .answer) (c .out, c .work) (c .out-after, c .work-after) (Worked l c)
+
+abbrev codeNumbers : List ℕ
+codeNumbers = 1 ∷ 2 ∷ 3 ∷ 4 ∷ 5 ∷ 6 ∷ 7 ∷ []
+
+-- Points: its two buffers
+abbrev pub listedPoints : ℕ → Curve → List Point
+listedPoints m C = take pointRoom (affinePoints (galois m) C)
+
+abbrev pub PointsAnswers : ℕ → Curve → Answer → List ℕ → List ℕ → List ℕ → List ℕ → Type 0
+PointsAnswers m C r xs ys xs′ ys′ =
+    Answers {M = Lent} (1 ∷ 2 ∷ 3 ∷ 8 ∷ []) (pointsTests m C xs ys) r (xs, ys) (xs′, ys′)
+    (Listed (map (λ P. P .x) (listedPoints m C)) r xs xs′ × Listed (map (λ P. P .y) (listedPoints m C)) r ys ys′)
+
+pub record Demand1 : Type 0 where
+  pub points : (m : ℕ) (C : Curve) (r : Answer) (xs ys xs′ ys′ : List ℕ) → Meets (pointsOutcome m C xs ys) r (xs, ys) (xs′, ys′)
+      → PointsAnswers m C r xs ys xs′ ys′
+  -- "all affine points": for m up to 7 none is cut off. For m = 8 that is Hasse's bound, which is not proved
+  pub points-all : (m : ℕ) (C : Curve) → 2 ≤ m → m ≤ 7 → listedPoints m C ≡ affinePoints (galois m) C
+  pub means : (stamps : List ℕ) (readings : List ℤ) (hour : ℕ) (r : Answer) (old new : List ℤ) → Meets (meansOutcome stamps readings hour (length old)) r old new
+      → Fills (8 ∷ 19 ∷ 18 ∷ 19 ∷ 16 ∷ []) (meansTests stamps readings hour (length old)) (table (meanAt stamps readings hour) (length old)) r old new
+  pub plain : (code : Code) (f : List ℕ) (r : Answer) (old new : List ℕ) → Meets (plainOutcome code f (length old)) r old new
+      → Fills (codeNumbers ++ 8 ∷ 8 ∷ 11 ∷ []) (plainTests code f old) (word code f) r old new
+  pub pack : (code : Code) (means : List ℤ) (r : Answer) (old new : List ℕ) → Meets (packBlockOutcome code means (length old)) r old new
+      → Fills (codeNumbers ++ 8 ∷ 8 ∷ 16 ∷ []) (packTests code means old) (packed (width (code .field)) means (length old)) r old new
+  pub unpack : (code : Code) (block : List ℕ) (r : Answer) (old new : List ℤ) → Meets (unpackBlockOutcome code block (length old)) r old new
+      → Fills (codeNumbers ++ 8 ∷ 8 ∷ 11 ∷ 17 ∷ []) (unpackTests code block old) (unpacked (width (code .field)) block (length old)) r old new
+  pub heard : (code : Code) (mask : List ℕ) (r : Answer) (old new : List ℕ) → Meets (heardOutcome code mask old) r old new
+      → Answers (codeNumbers ++ 8 ∷ 8 ∷ 9 ∷ []) (heardTests code mask old) r old new (Listed (heardPlaces mask (n code)) r old new)
+  pub recover : (code : Code) (w : List ℕ) (c : Call) → Of (recoverOutcome code w) c
+      → Works (codeNumbers ++ 8 ∷ 8 ∷ 8 ∷ 11 ∷ 14 ∷ []) (recoverTests code w (c .out) (c .work)) (recovered code w) c
+  pub systematic-function : (code : Code) (J msg : List ℕ) (c : Call) → Of (systematicFunctionOutcome code J msg) c
+      → Works (codeNumbers ++ 8 ∷ 8 ∷ 8 ∷ 8 ∷ 9 ∷ 10 ∷ 11 ∷ 12 ∷ []) (systematicTests code (code .k) J msg (c .out) (c .work)) (systematicFunction code J msg) c
+  pub systematic-word : (code : Code) (J msg : List ℕ) (c : Call) → Of (systematicWordOutcome code J msg) c
+      → Works (codeNumbers ++ 8 ∷ 8 ∷ 8 ∷ 8 ∷ 9 ∷ 10 ∷ 11 ∷ 12 ∷ []) (systematicTests code (n code) J msg (c .out) (c .work)) (systematicWord code J msg) c
+  pub matrix : (code : Code) (J : List ℕ) (c : Call) → Of (matrixOutcome code J) c
+      → Works (codeNumbers ++ 8 ∷ 8 ∷ 8 ∷ 9 ∷ 10 ∷ 12 ∷ []) (matrixTests code J (c .out) (c .work)) (joined (matrix code J)) c
+  pub relation : (code : Code) (J : List ℕ) (c : Call) → Of (relationOutcome code J) c
+      → Works (codeNumbers ++ 8 ∷ 8 ∷ 8 ∷ 9 ∷ 10 ∷ 15 ∷ []) (relationTests code J (c .out) (c .work)) (relation code J) c
+  pub pick : (code : Code) (J : List ℕ) (c : Call) → Of (pickOutcome code J) c
+      → Works (codeNumbers ++ 8 ∷ 8 ∷ 8 ∷ 9 ∷ 10 ∷ 13 ∷ 12 ∷ []) (pickTests code J (c .out) (c .work)) (pick code J) c
+  pub rebuild : (code : Code) (J us : List ℕ) (c : Call) → Of (rebuildOutcome code J us) c
+      → Works (codeNumbers ++ 8 ∷ 8 ∷ 8 ∷ 8 ∷ 9 ∷ 10 ∷ 11 ∷ 13 ∷ 12 ∷ 14 ∷ []) (rebuildTests code J us (c .out) (c .work)) (systematicWord code J us) c
+  -- the job sheet: its answer's number, and the text in the lent buffer
+  pub job : (job : Sheet) → let ts = jobTests (codeFor (job .head)) (job .places) (job .message) in
+      (numbers ts ≡ codeNumbers ++ 8 ∷ 8 ∷ 9 ∷ 10 ∷ 11 ∷ 12 ∷ []) × (answer (jobOutcome job) ≡ first ts)
+  pub sheet : (s : List ℕ) (r : Answer) (old new : List ℕ) → AnswersSheet s old r new
+      → Answers (8 ∷ []) (sheetTests old) r old new (Listed (answerTo s) r old new)

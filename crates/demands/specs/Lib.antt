@@ -1,0 +1,9 @@
+-- The three demands, as statements about calls of the operations.
+pub mod Call
+pub mod Order
+pub mod Demand1
+pub mod Demand2
+pub mod Demand3
+pub mod Blocks
+pub mod Day
+pub mod Starred
