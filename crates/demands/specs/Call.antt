@@ -14,6 +14,9 @@ pub record Call : Type 0 where
   pub out-after : List ℕ
   pub work-after : List ℕ
 
+abbrev pub call : Answer → List ℕ → List ℕ → List ℕ → List ℕ → Call
+call r out work out′ work′ = record { answer = r; out = out; work = work; out-after = out′; work-after = work′ }
+
 -- it is a call of the operation with this outcome: what the operation's contract says
 abbrev pub Of : (List ℕ → List ℕ → Outcome Lent) → Call → Type 0
 Of outcome c = Meets (outcome (c .out) (c .work)) (c .answer) (c .out, c .work) (c .out-after, c .work-after)

@@ -65,6 +65,10 @@ pub record RebuiltMore (code : Code) (J us : List ℕ) (c : Call) : Type 0 where
   pub else-done : (c .answer ≡ Done) ⊎ (c .answer ≡ Refused NoCodeword)
   pub gives : c .answer ≡ Done → OneWord code J us (c .out-after)
 
+-- of a call of Systematic word
+abbrev pub WordClause : Code → List ℕ → List ℕ → Call → Type 0
+WordClause code J msg c = choice code J ≡ true → message code msg ≡ true → Fits (n code) c → UnlessDependent code J (OneWord code J msg) c
+
 pub record Demand3 (code : Code) : Type 0 where
   -- "exactly one codeword agrees there with each message exactly when no nonzero function of weighted degree at most k is zero at all of them"
   pub exactly-one : (J : List ℕ) → choice code J ≡ true
@@ -74,8 +78,7 @@ pub record Demand3 (code : Code) : Type 0 where
   pub none-or-q : (J msg : List ℕ) → choice code J ≡ true → message code msg ≡ true → dependent code J ≡ true
       → (count code J msg ≡ 0) ⊎ (count code J msg ≡ q code)
   -- Systematic word, Systematic function and Matrix
-  pub systematic-word : (J msg : List ℕ) (c : Call) → Of (systematicWordOutcome code J msg) c → choice code J ≡ true → message code msg ≡ true → Fits (n code) c
-      → UnlessDependent code J (OneWord code J msg) c
+  pub systematic-word : (J msg : List ℕ) (c : Call) → Of (systematicWordOutcome code J msg) c → WordClause code J msg c
   pub systematic-function : (J msg : List ℕ) (c : Call) → Of (systematicFunctionOutcome code J msg) c → choice code J ≡ true → message code msg ≡ true → Fits (code .k) c
       → UnlessDependent code J (OneFunction code J msg) c
   pub matrix : (J : List ℕ) (c : Call) → Of (matrixOutcome code J) c → choice code J ≡ true → Fits (code .k * n code) c

@@ -61,7 +61,7 @@ fill-row-requires c κs =
     let f = s .pre .1 .0 in
     let i = c .before .before .before .before .loop .i in
     let size = row-length (length (s .args .px .now)) i (c .before .before .before .before .loop .out) (part (c .before .before .before)) in
-    (s .pre .0, ((f .lists, f .lows, f .highs, f .most), (c .before .before .before .loop-test .taken, omega (arith, size, c .before .index-of .ensures, f .places i (omega (arith, c .before .before .before .loop-test .taken, f .full))), size, marks-size (s .args .places .now) (s .args .px .now) (s .pre .1 .1), marks-rest (s .args .places .now) (s .args .px .now) (s .pre .1 .1) f)))
+    (s .pre .0, ((f .lists, f .lows, f .highs, f .most), (omega (arith, c .before .before .before .loop-test .taken), omega (arith, size, c .before .index-of .ensures, f .places i (omega (arith, c .before .before .before .loop-test .taken, f .full))), size, marks-size (s .args .places .now) (s .args .px .now) (s .pre .1 .1), marks-rest (s .args .places .now) (s .args .px .now) (s .pre .1 .1) f)))
 
 add-i : tie.Need-add-i Inv-loop μ-loop
 add-i c = let f = c .before .before .before .before .before .before .before .before .before .before .before .before .before .before .before .before .pre .1 .0 in record { fits = omega (arith, c .before .before .before .before .before .before .loop-test .taken, f .lists .points, f .most) }
