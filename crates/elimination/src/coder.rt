@@ -17,15 +17,73 @@ ghost use Rattle.elimination.specs.Sizes.{Room};
 // 288 rows of 289 entries.
 pub const ROOM: usize = 83232;
 
-// 288 factors and a symbol.
-pub const WIDTH: usize = 289;
-
 // What an equation added, as a byte.
 pub const IMPLIED: u8 = 0;
 
 pub const NEW: u8 = 1;
 
 pub const CONTRADICTION: u8 = 2;
+
+struct Point {
+    x: u8,
+    y: u8,
+}
+
+fn wide(x: u16) -> usize
+    ensures { λ r. ⌜ r ≡ x ⌝ }
+{
+    x as usize
+}
+
+// Whether place p is there in lists of the given lengths.
+fn is_place(n: usize, other: usize, place: u16) -> bool {
+    let p = wide(place);
+    if p < 1 {
+        return false;
+    }
+    if p > n {
+        return false;
+    }
+    p <= other
+}
+
+// Whether every place is there.
+fn all_places(n: usize, other: usize, places: &[u16]) -> bool {
+    let mut i = 0;
+    while i < places.len() {
+        if !is_place(n, other, places[i]) {
+            return false;
+        }
+        i += 1;
+    }
+    true
+}
+
+// The symbol at a place; 0 where there is none.
+fn at(list: &[u8], place: u16) -> u8 {
+    let p = wide(place);
+    if p < 1 {
+        return 0;
+    }
+    if p > list.len() {
+        return 0;
+    }
+    list[p - 1]
+}
+
+fn point_at(xs: &[u8], ys: &[u8], place: u16) -> Point {
+    Point {
+        x: at(xs, place),
+        y: at(ys, place),
+    }
+}
+
+// Memory for 288 factors and a symbol.
+fn one_equation() -> [u8; 289]
+    ensures { λ r. ⌜ length r ≡ 289 ⌝ }
+{
+    [0; 289]
+}
 
 fn mark(added: Added) -> u8 {
     match added {
@@ -50,8 +108,7 @@ fn add_point(
     m: u8,
     powers: &[u8; 255],
     logs: &[u8; 256],
-    x: u8,
-    y: u8,
+    p: Point,
     symbol: u8,
     rows: &mut [u8],
     equation: &mut [u8],
@@ -59,29 +116,31 @@ fn add_point(
     requires { ⌜ Tables m (now powers) (now logs) ⌝ }
     requires { ⌜ Room (now rows) × (1 ≤ length (now equation)) × (length (now equation) ≤ 289) ⌝ }
 {
-    pose(m, powers, logs, x, y, symbol, equation);
+    pose(m, powers, logs, p.x, p.y, symbol, equation);
     mark(add_equation(m, powers, logs, rows, equation))
 }
 
-// Adds the equations of all points in their order, and marks what each added. The memory for one equation is lent.
+// Adds the equations of all places in their order, and marks what each added. The memory for one equation is lent.
 fn add_all(
     m: u8,
     powers: &[u8; 255],
     logs: &[u8; 256],
     xs: &[u8],
     ys: &[u8],
+    places: &[u16],
     symbols: &[u8],
     rows: &mut [u8],
     equation: &mut [u8],
     marks: &mut [u8],
 )
     requires { ⌜ Tables m (now powers) (now logs) ⌝ }
-    requires { ⌜ (length (now ys) ≡ length (now xs)) × (length (now symbols) ≡ length (now xs)) × (length (now marks) ≡ length (now xs)) ⌝ }
+    requires { ⌜ (length (now symbols) ≡ length (now places)) × (length (now marks) ≡ length (now places)) ⌝ }
     requires { ⌜ Room (now rows) × (1 ≤ length (now equation)) × (length (now equation) ≤ 289) ⌝ }
 {
     let mut i = 0;
-    while i < xs.len() {
-        let added = add_point(m, powers, logs, xs[i], ys[i], symbols[i], rows, equation);
+    while i < places.len() {
+        let p = point_at(xs, ys, places[i]);
+        let added = add_point(m, powers, logs, p, symbols[i], rows, equation);
         marks[i] = added;
         i += 1;
     }
@@ -90,40 +149,44 @@ fn add_all(
 // The same where there is no equation yet.
 fn add_to_none(
     m: u8,
+    k: usize,
     xs: &[u8],
     ys: &[u8],
+    places: &[u16],
     symbols: &[u8],
     rows: &mut [u8],
-    equation: &mut [u8],
     marks: &mut [u8],
 )
-    requires { ⌜ IsField m ⌝ }
-    requires { ⌜ (length (now ys) ≡ length (now xs)) × (length (now symbols) ≡ length (now xs)) × (length (now marks) ≡ length (now xs)) ⌝ }
-    requires { ⌜ Room (now rows) × (1 ≤ length (now equation)) × (length (now equation) ≤ 289) ⌝ }
+    requires { ⌜ IsField m × (k ≤ 288) ⌝ }
+    requires { ⌜ (length (now symbols) ≡ length (now places)) × (length (now marks) ≡ length (now places)) × Room (now rows) ⌝ }
 {
-    clear(rows, equation.len() - 1);
+    let width = k + 1;
+    let mut equation = one_equation();
+    clear(rows, k);
     add_all(
         m,
         &powers(m),
         &logarithms(m),
         xs,
         ys,
+        places,
         symbols,
         rows,
-        equation,
+        &mut equation[..width],
         marks,
     );
 }
 
-// Brings into echelon form the equations that a function takes the symbols at the points, and marks what each added.
-// The memory for one equation is lent, and has an entry more than the function has coefficients. False if a length or the field number is wrong.
+// Brings into echelon form the equations that a function of k coefficients takes the symbols at the places, and marks what each added.
+// False if a length, a place or the field number is wrong.
 pub fn eliminate(
     m: u8,
+    k: usize,
     xs: &[u8],
     ys: &[u8],
+    places: &[u16],
     symbols: &[u8],
     rows: &mut [u8],
-    equation: &mut [u8],
     marks: &mut [u8],
 ) -> bool {
     if m < 2 {
@@ -132,30 +195,28 @@ pub fn eliminate(
     if m > 8 {
         return false;
     }
+    if k > 288 {
+        return false;
+    }
     if rows.len() != ROOM {
         return false;
     }
-    if equation.len() < 1 {
+    if symbols.len() != places.len() {
         return false;
     }
-    if equation.len() > WIDTH {
+    if marks.len() != places.len() {
         return false;
     }
-    if ys.len() != xs.len() {
+    if !all_places(xs.len(), ys.len(), places) {
         return false;
     }
-    if symbols.len() != xs.len() {
-        return false;
-    }
-    if marks.len() != xs.len() {
-        return false;
-    }
-    add_to_none(m, xs, ys, symbols, rows, equation, marks);
+    add_to_none(m, k, xs, ys, places, symbols, rows, marks);
     true
 }
 
-// The coefficients that the equations give; a free one is 1. False if a length or the field number is wrong.
-pub fn solution(m: u8, rows: &[u8], function: &mut [u8]) -> bool {
+// The function that the equations give, or with `right` false the one that they give if every symbol is 0; a free coefficient is 1.
+// False if a length or the field number is wrong.
+pub fn solution(m: u8, rows: &[u8], right: bool, function: &mut [u8]) -> bool {
     if m < 2 {
         return false;
     }
@@ -168,7 +229,7 @@ pub fn solution(m: u8, rows: &[u8], function: &mut [u8]) -> bool {
     if rows.len() != ROOM {
         return false;
     }
-    solve(m, &powers(m), &logarithms(m), rows, function);
+    solve(m, &powers(m), &logarithms(m), rows, right, function);
     true
 }
 
@@ -211,15 +272,16 @@ fn fill_word(
     }
 }
 
-// The word of a function. The memory for as many monomials as it has coefficients is lent. False if a length or the field number is wrong.
-pub fn word(m: u8, xs: &[u8], ys: &[u8], function: &[u8], row: &mut [u8], out: &mut [u8]) -> bool {
+// The word of a function. False if a length or the field number is wrong.
+pub fn word(m: u8, xs: &[u8], ys: &[u8], function: &[u8], out: &mut [u8]) -> bool {
     if m < 2 {
         return false;
     }
     if m > 8 {
         return false;
     }
-    if row.len() != function.len() {
+    let k = function.len();
+    if k > 289 {
         return false;
     }
     if xs.len() != out.len() {
@@ -228,6 +290,16 @@ pub fn word(m: u8, xs: &[u8], ys: &[u8], function: &[u8], row: &mut [u8], out: &
     if ys.len() != out.len() {
         return false;
     }
-    fill_word(m, &powers(m), &logarithms(m), xs, ys, function, row, out);
+    let mut row = one_equation();
+    fill_word(
+        m,
+        &powers(m),
+        &logarithms(m),
+        xs,
+        ys,
+        function,
+        &mut row[..k],
+        out,
+    );
     true
 }

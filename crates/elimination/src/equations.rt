@@ -109,11 +109,13 @@ pub fn add_equation(
 }
 
 // Coefficient c by row c, where those after it are known; those before it have the factor 0, and its own is 1. A free one is 1.
+// With `right` false every symbol is taken for 0.
 fn coefficient(
     m: u8,
     powers: &[u8; 255],
     logs: &[u8; 256],
     rows: &[u8],
+    right: bool,
     c: usize,
     function: &[u8],
 ) -> u8
@@ -125,18 +127,26 @@ fn coefficient(
     }
     let start = c * WIDTH;
     let end = start + function.len();
-    rows[end] ^ function[c] ^ inner_product(m, powers, logs, &rows[start..end], function)
+    let sum = function[c] ^ inner_product(m, powers, logs, &rows[start..end], function);
+    if right { sum ^ rows[end] } else { sum }
 }
 
 // The coefficients from the last to the first: the one solution if there is one and no more.
-pub fn solve(m: u8, powers: &[u8; 255], logs: &[u8; 256], rows: &[u8], function: &mut [u8])
+pub fn solve(
+    m: u8,
+    powers: &[u8; 255],
+    logs: &[u8; 256],
+    rows: &[u8],
+    right: bool,
+    function: &mut [u8],
+)
     requires { ⌜ Tables m (now powers) (now logs) ⌝ }
     requires { ⌜ Room (now rows) × (length (now function) ≤ 288) ⌝ }
 {
     let mut c = function.len();
     while c > 0 {
         c -= 1;
-        let v = coefficient(m, powers, logs, rows, c, function);
+        let v = coefficient(m, powers, logs, rows, right, c, function);
         function[c] = v;
     }
 }

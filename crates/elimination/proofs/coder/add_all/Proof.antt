@@ -7,22 +7,25 @@ use Rattle.elimination.proofs.coder.add_all.Statement.{statement}
 use Rattle.elimination.proofs.coder.add_all.Tie as tie
 
 abbrev Inv-loop : tie.InvT-loop
-Inv-loop m powers logs xs ys symbols rows₀ equation₀ marks₀ i₀ rows equation marks i = (length rows ≡ length rows₀) × (length equation ≡ length equation₀) × (length marks ≡ length marks₀)
+Inv-loop m powers logs xs ys places symbols rows₀ equation₀ marks₀ i₀ rows equation marks i = (length rows ≡ length rows₀) × (length equation ≡ length equation₀) × (length marks ≡ length marks₀)
 
 abbrev μ-loop : tie.MeasureT-loop
-μ-loop m powers logs xs ys symbols rows₀ equation₀ marks₀ i₀ rows equation marks i = length xs - i
+μ-loop m powers logs xs ys places symbols rows₀ equation₀ marks₀ i₀ rows equation marks i = length places - i
 
 loop-holds : tie.Need-loop-holds Inv-loop μ-loop
 loop-holds c = search needs
 
+mul-point-at : tie.Need-mul-point-at Inv-loop μ-loop
+mul-point-at c = search needs
+
+shared-slice-read-point-at : tie.Need-shared-slice-read-point-at Inv-loop μ-loop
+shared-slice-read-point-at c = search needs
+
+point-at-requires : tie.Need-point-at-requires Inv-loop μ-loop
+point-at-requires c κs = search needs
+
 shared-slice-read-add-point : tie.Need-shared-slice-read-add-point Inv-loop μ-loop
 shared-slice-read-add-point c = search needs
-
-shared-slice-read-add-point-2 : tie.Need-shared-slice-read-add-point-2 Inv-loop μ-loop
-shared-slice-read-add-point-2 c = search needs
-
-shared-slice-read-add-point-3 : tie.Need-shared-slice-read-add-point-3 Inv-loop μ-loop
-shared-slice-read-add-point-3 c = search needs
 
 add-point-requires : tie.Need-add-point-requires Inv-loop μ-loop
 add-point-requires c κs = search needs
@@ -58,9 +61,10 @@ add-all-spec =
     Inv-loop
     μ-loop
     loop-holds
+    mul-point-at
+    shared-slice-read-point-at
+    point-at-requires
     shared-slice-read-add-point
-    shared-slice-read-add-point-2
-    shared-slice-read-add-point-3
     add-point-requires
     slice-write-marks
     add-i

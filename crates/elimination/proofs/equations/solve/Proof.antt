@@ -7,10 +7,10 @@ use Rattle.elimination.proofs.equations.solve.Statement.{statement}
 use Rattle.elimination.proofs.equations.solve.Tie as tie
 
 abbrev Inv-loop : tie.InvT-loop
-Inv-loop m powers logs rows function₀ c₀ function c = (c ≤ length function₀) × (length function ≡ length function₀)
+Inv-loop m powers logs rows right function₀ c₀ function c = (c ≤ length function₀) × (length function ≡ length function₀)
 
 abbrev μ-loop : tie.MeasureT-loop
-μ-loop m powers logs rows function₀ c₀ function c = c
+μ-loop m powers logs rows right function₀ c₀ function c = c
 
 loop-holds : tie.Need-loop-holds Inv-loop μ-loop
 loop-holds c = search needs
