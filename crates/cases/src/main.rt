@@ -4,6 +4,7 @@ mod choices;
 mod choose;
 mod codes;
 mod compare;
+mod eighty;
 mod known;
 mod lists;
 mod memory;
@@ -29,4 +30,5 @@ fn main() {
     choices::all_b();
     codes::random_codes();
     codes::large_codes();
+    eighty::eighty();
 }
