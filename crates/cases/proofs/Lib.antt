@@ -1,0 +1,2 @@
+-- The laws of the program's lists.
+pub mod Parts

@@ -1,0 +1,87 @@
+// All choices of places of a small code.
+use crate::choose::try_places;
+use crate::known::curve_a;
+use crate::known::curve_b;
+use crate::known::xs_a;
+use crate::known::xs_b;
+use crate::known::ys_a;
+use crate::known::ys_b;
+use crate::tally::Tally;
+use crate::tally::close;
+use crate::tally::nothing;
+use crate::tally::show;
+use crate::tally::write;
+use codewords::Parameters;
+ghost use Prim.Native.Nat.{_≤_};
+ghost use lib.ListN.{length};
+
+// A trial if the mask has k places.
+fn try_mask(t: Tally, state: &mut u64, code: Parameters, xs: &[u8], ys: &[u8], mask: u32) -> Tally
+    requires { ⌜ (length (now xs) ≤ 288) × (code .k ≤ 288) ⌝ }
+{
+    let k = code.k;
+    // The remainder changes nothing, and shows that the count fits.
+    if (u32::count_ones(mask) % 64) as usize == k {
+        return try_places(t, state, code, xs, ys, k, mask);
+    }
+    t
+}
+
+// A trial at every choice; `end` is past the mask of all places.
+fn try_all(code: Parameters, xs: &[u8], ys: &[u8], end: u32) -> Tally
+    requires { ⌜ (length (now xs) ≤ 288) × (code .k ≤ 288) ⌝ }
+{
+    let mut state: u64 = 88172645463325252;
+    let mut t = nothing();
+    let mut mask = 1;
+    while mask < end {
+        t = try_mask(t, &mut state, code, xs, ys, mask);
+        mask += 1;
+    }
+    t
+}
+
+fn line(name: &[u8], k: usize, t: Tally) {
+    write(name);
+    show(b", k = ", k as u64);
+    show(b": ", t.choices);
+    show(b" choices, ", t.dependent);
+    write(b" dependent");
+    close(t);
+}
+
+fn choices_a(k: usize)
+    requires { ⌜ k ≤ 8 ⌝ }
+{
+    let code = Parameters {
+        field: 2,
+        curve: curve_a(),
+        k,
+    };
+    line(b"A", k, try_all(code, &xs_a(), &ys_a(), 256));
+}
+
+fn choices_b(k: usize)
+    requires { ⌜ k ≤ 8 ⌝ }
+{
+    let code = Parameters {
+        field: 2,
+        curve: curve_b(),
+        k,
+    };
+    line(b"B", k, try_all(code, &xs_b(), &ys_b(), 128));
+}
+
+// All choices of A.
+pub fn all_a() {
+    for k in 1..8 {
+        choices_a(k);
+    }
+}
+
+// All choices of B.
+pub fn all_b() {
+    for k in 1..7 {
+        choices_b(k);
+    }
+}
