@@ -8,12 +8,13 @@ Every number comes from calls of the proved archive. A block is a day: 24 random
 covers so many slots one after the other, from each of the 80 slots on, and runs on over the end. What is left goes through Heard, Rebuild and
 Unpack. A block survives if the codeword and all means come back; the script stops if ever a wrong one does.
 
-Two orders of sending are drawn: places 1, 2, 3, .. as Points lists them, and each time STRIDE places further. Opposite points stand side by
-side in the first order, so that an arc of 20 slots from an odd place on leaves 30 pairs of opposite points, and these are dependent. Of the
+This coder is drawn for two orders of sending: places 1, 2, 3, .. as Points lists them, and each time STRIDE places further. Opposite points stand
+side by side in the first order, so that an arc of 20 slots from an odd place on leaves 30 pairs of opposite points, and these are dependent. Of the
 strides below 40 that reach all places, 3, 17, 27 and 39 leave dependent places at no start of such an arc, 1 at 40 of the 80, and the others at 1
 to 3.
 
-The older versions of the coder are not drawn: no document of the project says what they did with missing places.
+Three simpler ways stand beside it, since no document of the project says what older versions of the coder did: the 60 symbols sent once, the first 20
+of them twice, and the same code with the first 60 heard places taken as they come.
 """
 import ctypes
 import pathlib
@@ -115,8 +116,26 @@ def survives(coder, chosen, means, word, heard):
     return True
 
 
-def shares(coder, stride):
-    """For each arc the share, in percent, of blocks and arc starts at which a block survives."""
+def by_first_places(coder, chosen, means, word, heard):
+    """The same by k places alone, whichever were heard first."""
+    return len(heard) >= K and survives(coder, chosen, means, word, heard[:K])
+
+
+def uncoded(copies):
+    """Slot i sends symbol i, and the last slots the first symbols again, so many of them: whether each was heard at least once."""
+
+    def test(coder, chosen, means, word, heard):
+        told = {p - 1 for p in heard if p <= K} | {p - 1 - K for p in heard if K < p <= K + copies}
+        if len(told) < K:
+            return False
+        block = [word[p - 1] for p in chosen]
+        return coder.unpack([block[i] for i in sorted(told)]) == means
+
+    return test
+
+
+def shares(coder, stride, test):
+    """For each arc the share, in percent, of blocks and arc starts at which a block survives the test."""
     n = coder.n
     order = [i * stride % n + 1 for i in range(n)]
     chosen = coder.pick(range(1, n + 1))
@@ -128,7 +147,7 @@ def shares(coder, stride):
         for start in range(n):
             deaf = {order[(start + i) % n] for i in range(arc)}
             heard = coder.heard(mask_of(p for p in order if p not in deaf))
-            kept += sum(survives(coder, chosen, means, word, heard) for means, word in zip(days, words))
+            kept += sum(test(coder, chosen, means, word, heard) for means, word in zip(days, words))
         result.append(100 * kept / (n * BLOCKS))
     return result
 
@@ -175,8 +194,8 @@ def drawing(lines):
     for i, (name, colour, dashes, values) in enumerate(lines):
         parts.append(curve(values, colour, dashes))
         y = TOP + 40 + 24 * i
-        parts.append(f'<line x1="430" y1="{y}" x2="462" y2="{y}" stroke="{colour}" stroke-width="2"{dashes}/>')
-        parts.append(text(470, y + 4, name, "start"))
+        parts.append(f'<line x1="415" y1="{y}" x2="447" y2="{y}" stroke="{colour}" stroke-width="2"{dashes}/>')
+        parts.append(text(455, y + 4, name, "start"))
     parts.append(text(LEFT + WIDTH / 2, 438, "No block came back wrong: each was rebuilt whole or refused.", size=12))
     body = "\n".join(parts)
     return f'<svg xmlns="http://www.w3.org/2000/svg" viewBox="0 0 740 450" width="740" height="450" font-family="sans-serif">\n{body}\n</svg>\n'
@@ -186,8 +205,11 @@ def main():
     random.seed(1)
     coder = Coder()
     lines = [
-        ("places sent in the order of Points", "#b03020", "", shares(coder, 1)),
-        (f"each time {STRIDE} places further", "#2050a0", ' stroke-dasharray="6 4"', shares(coder, STRIDE)),
+        ("no code: 60 symbols, each once", "#909090", "", shares(coder, 1, uncoded(0))),
+        ("no code: 20 of the 60 symbols twice", "#606060", ' stroke-dasharray="2 3"', shares(coder, 1, uncoded(20))),
+        ("the first 60 heard places, as they come", "#c09020", "", shares(coder, STRIDE, by_first_places)),
+        ("this coder, places in the order of Points", "#b03020", "", shares(coder, 1, survives)),
+        (f"this coder, each time {STRIDE} places further", "#2050a0", ' stroke-dasharray="6 4"', shares(coder, STRIDE, survives)),
     ]
     for name, _, _, values in lines:
         print(name + ":", " ".join(f"{v:g}" for v in values))
