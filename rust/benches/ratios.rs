@@ -78,13 +78,8 @@ fn products(random: &mut Random) {
     }
 }
 
-/// The operations on codes, at all points of a curve.
-fn codes(field: u8, curve: [u8; 5], k: usize, random: &mut Random) {
-    let (xs, ys): (Vec<u8>, Vec<u8>) = curve::all_points(field, curve).into_iter().unzip();
-    let n = xs.len();
-    let code = Code { field, curve, xs: &xs, ys: &ys, k };
-    let named = |job: &str| format!("{job}, m = {field}, n = {n}, k = {k}");
-
+fn all_points(field: u8, curve: [u8; 5]) {
+    let n = curve::all_points(field, curve).len();
     compare(
         &format!("points, m = {field}, {n} of them"),
         if field == 8 { 1 } else { 10 },
@@ -98,53 +93,67 @@ fn codes(field: u8, curve: [u8; 5], k: usize, random: &mut Random) {
             fast::points(black_box(field), black_box(curve), xs, ys)
         },
     );
+}
 
-    // with an empty mask there is hardly more to do than the code test
+fn named(job: &str, code: &Code) -> String {
+    format!("{job}, m = {}, n = {}, k = {}", code.field, code.xs.len(), code.k)
+}
+
+/// Heard: with an empty mask there is hardly more to do than the code test, and then with seven places of eight.
+fn masks(code: &Code, random: &mut Random) {
     let mut mask = vec![0u8; MASK_BYTES];
-    let code = || black_box(code);
-    let places = vec![0u16; MOST_POINTS];
-    compare(
-        &named("code test"),
-        50,
-        places.clone(),
-        |out| vakhudle::heard(&code(), black_box(&mask), out),
-        |out| fast::heard(&code(), black_box(&mask), out),
-    );
-
-    let coefficients = random.symbols(field, k);
-    compare(
-        &named("plain"),
-        if field == 8 { 1 } else { 5 },
-        vec![0u8; n],
-        |out| vakhudle::plain(&code(), black_box(&coefficients), out),
-        |out| fast::plain(&code(), black_box(&coefficients), out),
-    );
-
-    // seven places of eight are heard
-    for p in (0..n).filter(|_| !random.once_in(8)) {
+    let row = |job: &str, mask: &[u8]| {
+        compare(
+            &named(job, code),
+            50,
+            vec![0u16; MOST_POINTS],
+            |out| vakhudle::heard(black_box(code), black_box(mask), out),
+            |out| fast::heard(black_box(code), black_box(mask), out),
+        )
+    };
+    row("code test", &mask);
+    for p in (0..code.xs.len()).filter(|_| !random.once_in(8)) {
         mask[p / 8] |= 1 << (p % 8);
     }
-    compare(&named("heard"), 50, places, |out| vakhudle::heard(&code(), black_box(&mask), out), |out| fast::heard(&code(), black_box(&mask), out));
+    row("heard", &mask);
+}
 
-    let hours = k * field as usize / 15;
+fn packing(code: &Code, random: &mut Random) {
+    let hours = code.k * code.field as usize / 15;
     let means: Vec<i16> = (0..hours).map(|_| if random.once_in(10) { ABSENT } else { random.between(-2_000, 20_000) as i16 }).collect();
     compare(
-        &named(&format!("pack {hours} hours")),
+        &named(&format!("pack {hours} hours"), code),
         50,
-        vec![0u8; k],
-        |out| vakhudle::pack(&code(), black_box(&means), out),
-        |out| fast::pack(&code(), black_box(&means), out),
+        vec![0u8; code.k],
+        |out| vakhudle::pack(black_box(code), black_box(&means), out),
+        |out| fast::pack(black_box(code), black_box(&means), out),
     );
-
-    let mut symbols = vec![0; k];
-    fast::pack(&code(), &means, &mut symbols).unwrap();
+    let mut symbols = vec![0; code.k];
+    fast::pack(code, &means, &mut symbols).unwrap();
     compare(
-        &named(&format!("unpack {hours} hours")),
+        &named(&format!("unpack {hours} hours"), code),
         50,
         vec![0i16; hours],
-        |out| vakhudle::unpack(&code(), black_box(&symbols), out),
-        |out| fast::unpack(&code(), black_box(&symbols), out),
+        |out| vakhudle::unpack(black_box(code), black_box(&symbols), out),
+        |out| fast::unpack(black_box(code), black_box(&symbols), out),
     );
+}
+
+/// The operations on codes, at all points of a curve.
+fn codes(field: u8, curve: [u8; 5], k: usize, random: &mut Random) {
+    all_points(field, curve);
+    let (xs, ys): (Vec<u8>, Vec<u8>) = curve::all_points(field, curve).into_iter().unzip();
+    let code = Code { field, curve, xs: &xs, ys: &ys, k };
+    let coefficients = random.symbols(field, k);
+    compare(
+        &named("plain", &code),
+        if field == 8 { 1 } else { 5 },
+        vec![0u8; xs.len()],
+        |out| vakhudle::plain(black_box(&code), black_box(&coefficients), out),
+        |out| fast::plain(black_box(&code), black_box(&coefficients), out),
+    );
+    masks(&code, random);
+    packing(&code, random);
 }
 
 /// One place more than k, in no order, and the k of them that are picked.

@@ -1,7 +1,7 @@
 //! Pick against elimination, and against the list of all codewords.
 mod common;
 use common::each::{listed_places, tests_of_each};
-use common::places::{curve_a, dependent_choice, some_places, symbols_at, Job, Pick};
+use common::places::{curve_a, dependent_choice, symbols_at, Job, Pick};
 use common::{fullest_curve, OwnCode};
 use std::collections::HashSet;
 use vakhudle::plain::Random;

@@ -1,7 +1,7 @@
 //! Rebuild against elimination, and against the list of all codewords.
 mod common;
 use common::each::{listed_places, tests_of_each};
-use common::places::{curve_a, some_places, symbols_at, Job, Rebuild};
+use common::places::{curve_a, symbols_at, Job, Rebuild};
 use common::Call;
 use vakhudle::plain::Random;
 

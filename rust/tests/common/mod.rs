@@ -212,6 +212,18 @@ impl OwnCode {
         1 << self.field
     }
 
+    fn spoil_lists(&mut self, random: &mut Random) {
+        match random.below(7) {
+            0 => drop(self.xs.pop()),
+            1 => drop(self.ys.pop()),
+            2 => self.xs.push(self.xs[0]),
+            3 => self.ys.clear(),
+            4 => self.list(1),
+            5 => self.list(0),
+            _ => self.list(random.pick(&[289, 290, 320, 513])),
+        }
+    }
+
     /// Spoils the code so that its test finds this number, 1 to 7, if it finds none before. Answers whether that can be done.
     pub fn spoil(&mut self, number: u8, random: &mut Random) -> bool {
         let (q, n) = (self.size(), self.n());
@@ -221,15 +233,7 @@ impl OwnCode {
             2 if self.field == 8 => return false,
             2 => self.curve[random.below(5) as usize] = above(q, random),
             3 => self.curve = curve_that(true, self.field, random),
-            4 => match random.below(7) {
-                0 => drop(self.xs.pop()),
-                1 => drop(self.ys.pop()),
-                2 => self.xs.push(self.xs[0]),
-                3 => self.ys.clear(),
-                4 => self.list(1),
-                5 => self.list(0),
-                _ => self.list(random.pick(&[289, 290, 320, 513])),
-            },
+            4 => self.spoil_lists(random),
             5 => {
                 let i = random.below(n as u64) as usize;
                 match random.below(3) {

@@ -147,25 +147,42 @@ impl<O: Operation> Job<O> {
     }
 }
 
+impl<O: Operation> Job<O> {
+    fn spoil_length(&mut self, random: &mut Random) {
+        let (n, k) = (self.code.n(), self.code.k);
+        match random.below(4) {
+            0 if O::HAS_SYMBOLS => self.symbols.resize(other_length(self.symbols.len(), random), 0),
+            1 if O::HAS_PLACES => {
+                let length = if O::ONLY_K { other_length(k, random) } else { n + random.pick(&[1, 2, 40, 300]) };
+                // one by one they are right
+                self.places = (0..length).map(|i| (i % n) as u16 + 1).collect();
+                if O::HAS_SYMBOLS && !O::ONLY_K {
+                    self.symbols.resize(length, 0);
+                }
+            }
+            2 => self.work = random.pick(&[0, 1, 292, 2_048, 4_096, 8_191]),
+            _ => self.room = other_length(self.room, random),
+        }
+    }
+
+    /// Its choice is dependent now, if there is such a choice.
+    fn spoil_choice(&mut self) -> bool {
+        let Some(choice) = &self.dependent else { return false };
+        self.places = choice.clone();
+        if O::HAS_SYMBOLS {
+            self.symbols.resize(self.code.k, 0);
+        }
+        true
+    }
+}
+
 impl<O: Operation> Call for Job<O> {
     const ORDER: &'static [u8] = O::ORDER;
 
     fn spoil(&mut self, entry: usize, random: &mut Random) -> bool {
         let (n, k) = (self.code.n(), self.code.k);
         match O::ORDER[entry] {
-            8 => match random.below(4) {
-                0 if O::HAS_SYMBOLS => self.symbols.resize(other_length(self.symbols.len(), random), 0),
-                1 if O::HAS_PLACES => {
-                    let length = if O::ONLY_K { other_length(k, random) } else { n + random.pick(&[1, 2, 40, 300]) };
-                    // one by one they are right
-                    self.places = (0..length).map(|i| (i % n) as u16 + 1).collect();
-                    if O::HAS_SYMBOLS && !O::ONLY_K {
-                        self.symbols.resize(length, 0);
-                    }
-                }
-                2 => self.work = random.pick(&[0, 1, 292, 2_048, 4_096, 8_191]),
-                _ => self.room = other_length(self.room, random),
-            },
+            8 => self.spoil_length(random),
             9 | 11 if self.places.is_empty() && self.symbols.is_empty() => return false,
             9 => {
                 let i = random.below(self.places.len() as u64) as usize;
@@ -184,15 +201,7 @@ impl<O: Operation> Call for Job<O> {
                 let i = random.below(self.symbols.len() as u64) as usize;
                 self.symbols[i] = above(self.code.size(), random);
             }
-            12 => match &self.dependent {
-                Some(choice) => {
-                    self.places = choice.clone();
-                    if O::HAS_SYMBOLS {
-                        self.symbols.resize(k, 0);
-                    }
-                }
-                None => return false,
-            },
+            12 => return self.spoil_choice(),
             13 => {
                 let count = random.below(k as u64) as usize;
                 self.places.truncate(count);
