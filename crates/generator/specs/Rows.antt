@@ -10,6 +10,7 @@ use Rattle.basics.specs.Lists.{table}
 use Rattle.field.specs.Sum.{_⊕_}
 use Rattle.field.specs.Field.{Arithmetic}
 use Rattle.field.specs.Galois.{galois, product, inverse, size}
+use Rattle.field.specs.Tables.{IsLog, productByLog}
 use Rattle.elliptic.specs.Pair.{State, after}
 use Rattle.engine.specs.Places.{valueAt}
 use Rattle.values.specs.Values.{pointsIn}
@@ -96,6 +97,11 @@ pub record RowLists (xs a b : List ℕ) (count : ℕ) : Type 0 where
   pub seconds : count ≤ length b
 
 -- ---- the entries
+
+-- r is what products with a are looked up by
+pub record Factor (m a r : ℕ) : Type 0 where
+  pub is-log : IsLog m r
+  pub times : (b : ℕ) → productByLog m r b ≡ product m a b
 
 -- the value of row j at a point with first coordinate α where L and U are v and w, unless its own coordinate is α too
 abbrev pub quotientAt : ℕ → ℕ → ℕ → ℕ → List ℕ → List ℕ → List ℕ → ℕ → ℕ

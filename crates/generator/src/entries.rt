@@ -1,13 +1,16 @@
 // The entries of a row of the matrix, by its factors.
+use field::logarithm;
 use field::product;
+use field::product_by_log;
 use field::quotient;
 ghost use mathlib.Core.Path.{_≡_};
 ghost use Prim.Native.Nat.{_+_, _<_, _≤_};
 ghost use lib.ListN.{length, getD, set};
 ghost use Rattle.basics.specs.Lists.{table};
-ghost use Rattle.field.specs.Tables.{Tables};
+ghost use Rattle.field.specs.Galois.{IsField};
+ghost use Rattle.field.specs.Tables.{Tables, logTable};
 ghost use Rattle.generator.specs.Arranged.{rank};
-ghost use Rattle.generator.specs.Rows.{RowLists, total, quotientAt, entryAt, symbolAt};
+ghost use Rattle.generator.specs.Rows.{RowLists, Factor, total, quotientAt, entryAt, symbolAt};
 
 fn wide(x: u8) -> usize
     ensures { λ r. ⌜ r ≡ x ⌝ }
@@ -42,12 +45,22 @@ fn column_sum(
     sum
 }
 
-// The entry of row j at the point with index s.
+// The logarithm of a factor, which a row looks up once.
+fn factor(m: u8, logs: &[u8; 256], a: u8) -> u8
+    requires { ⌜ IsField m × (now logs ≡ logTable m) ⌝ }
+    ensures { λ r. ⌜ Factor m a r ⌝ }
+{
+    logarithm(m, logs, a)
+}
+
+// The entry of row j, whose factors have the logarithms la and lb, at the point with index s.
 fn entry(
     m: u8,
     powers: &[u8; 255],
     logs: &[u8; 256],
     j: usize,
+    la: u8,
+    lb: u8,
     s: usize,
     count: usize,
     xs: &[u8],
@@ -58,7 +71,7 @@ fn entry(
 ) -> u8
     requires { ⌜ Tables m (now powers) (now logs) ⌝ }
     requires { ⌜ RowLists (now xs) (now a) (now b) count × (length (now l) ≡ length (now xs)) × (length (now u) ≡ length (now xs)) × (length (now xs) ≤ 288) ⌝ }
-    requires { ⌜ (j < count) × (s < length (now xs)) ⌝ }
+    requires { ⌜ (j < count) × (s < length (now xs)) × Factor m (getD (now a) j 0) la × Factor m (getD (now b) j 0) lb ⌝ }
     ensures { λ r. ⌜ r ≡ entryAt m (now (xs .entry)) (now (l .entry)) (now (u .entry)) (now (a .entry)) (now (b .entry)) count j s ⌝ }
 {
     let x = xs[j];
@@ -68,7 +81,7 @@ fn entry(
     if alpha == x {
         return 1 ^ column_sum(m, powers, logs, alpha, v, w, count, xs, a, b);
     }
-    let top = product(m, powers, logs, a[j], v) ^ product(m, powers, logs, b[j], w);
+    let top = product_by_log(m, powers, logs, la, v) ^ product_by_log(m, powers, logs, lb, w);
     quotient(m, powers, logs, top, alpha ^ x)
 }
 
@@ -94,6 +107,8 @@ pub fn fill_row(
         × (count + rank (λ i. getD (now free) i 0) (length (now xs)) ≤ length (now xs)) ⌝ }
     ensures { λ _. ⌜ now (row .exit) ≡ set (table (symbolAt count (now (free .entry)) (entryAt m (now (xs .entry)) (now (l .entry)) (now (u .entry)) (now (a .entry)) (now (b .entry)) count j)) (length (now (xs .entry)))) c 1 ⌝ }
 {
+    let la = factor(m, logs, a[j]);
+    let lb = factor(m, logs, b[j]);
     let mut s = count;
     let mut i = 0;
     while i < row.len() {
@@ -101,7 +116,7 @@ pub fn fill_row(
         if f == 0 {
             row[i] = 0;
         } else {
-            row[i] = entry(m, powers, logs, j, s, count, xs, l, u, a, b);
+            row[i] = entry(m, powers, logs, j, la, lb, s, count, xs, l, u, a, b);
         }
         s += wide(f);
         i += 1;

@@ -1,4 +1,5 @@
 -- By cases of whether both have the same first coordinate.
+use mathlib.Core.Path.{_∙_}
 use Rattle.generator.proofs.Turns.{entry-over, entry-away, quotient-by}
 use borrow.Author.Needs.{needs}
 use Rattle.generator.proofs.entries.entry.Statement.{statement}
@@ -22,26 +23,22 @@ column-sum-requires c κs = search needs
 returns : tie.Need-returns
 returns c = let a = c .before .before .before .before .before .before .before .before .before .before .before .args in entry-over (a .m) (a .xs .now) (a .l .now) (a .u .now) (a .a .now) (a .b .now) (a .count) (a .j) (a .s) (c .before .if1 .taken) (c .column-sum .ensures)
 
-shared-slice-read-product : tie.Need-shared-slice-read-product
-shared-slice-read-product c = search needs
+product-by-log-requires : tie.Need-product-by-log-requires
+product-by-log-requires c κs = search needs
 
-product-requires : tie.Need-product-requires
-product-requires c κs = search needs
-
-shared-slice-read-product-2 : tie.Need-shared-slice-read-product-2
-shared-slice-read-product-2 c = search needs
-
-product-requires-2 : tie.Need-product-requires-2
-product-requires-2 c κs = search needs
+product-by-log-requires-2 : tie.Need-product-by-log-requires-2
+product-by-log-requires-2 c κs = search needs
 
 quotient-requires : tie.Need-quotient-requires
 quotient-requires c κs = search needs
 
 returns-2 : tie.Need-returns-2
 returns-2 c =
-    let a = c .before .before .before .before .before .before .before .before .before .before .before .before .before .before .before .args in
-    entry-away (a .m) (a .xs .now) (a .l .now) (a .u .now) (a .a .now) (a .b .now) (a .count) (a .j) (a .s) (c .before .before .before .before .before .if1 .left)
-    (quotient-by (a .m) _ _ _ (a .xs .now) (a .a .now) (a .b .now) (a .j) (c .before .before .before .product .ensures) (c .before .product2 .ensures) (c .quotient .ensures))
+    let s = c .before .before .before .before .before .before .before .before .before .before .before .before .before in
+    let a = s .args in
+    let f = s .pre .1 .1 in
+    entry-away (a .m) (a .xs .now) (a .l .now) (a .u .now) (a .a .now) (a .b .now) (a .count) (a .j) (a .s) (c .before .before .before .if1 .left)
+    (quotient-by (a .m) _ _ _ (a .xs .now) (a .a .now) (a .b .now) (a .j) (c .before .before .product-by-log .ensures ∙ f .2 .times _) (c .before .product-by-log2 .ensures ∙ f .3 .times _) (c .quotient .ensures))
 
 pub entry-spec : {M : Type 1} → statement M
 entry-spec =
@@ -53,9 +50,7 @@ entry-spec =
     shared-slice-read-w
     column-sum-requires
     returns
-    shared-slice-read-product
-    product-requires
-    shared-slice-read-product-2
-    product-requires-2
+    product-by-log-requires
+    product-by-log-requires-2
     quotient-requires
     returns-2)

@@ -16,25 +16,37 @@ use Rattle.generator.proofs.entries.fill_row.Statement.{statement}
 use Rattle.generator.proofs.entries.fill_row.Tie as tie
 
 abbrev Inv-loop : tie.InvT-loop
-Inv-loop m powers logs j c count free xs l u a b row₀ s₀ i₀ row s i = (i ≤ length row₀) × (length row ≡ length row₀) × (row ≡ filled (symbolAt count free (entryAt m xs l u a b count j)) row₀ i) × (s ≡ count + rank (λ t. getD free t 0) i)
+Inv-loop m powers logs j c count free xs l u a b row₀ la lb s₀ i₀ row s i = (i ≤ length row₀) × (length row ≡ length row₀) × (row ≡ filled (symbolAt count free (entryAt m xs l u a b count j)) row₀ i) × (s ≡ count + rank (λ t. getD free t 0) i)
 
 abbrev μ-loop : tie.MeasureT-loop
-μ-loop m powers logs j c count free xs l u a b row₀ s₀ i₀ row s i = length row₀ - i
+μ-loop m powers logs j c count free xs l u a b row₀ la lb s₀ i₀ row s i = length row₀ - i
+
+shared-slice-read-factor : tie.Need-shared-slice-read-factor Inv-loop μ-loop
+shared-slice-read-factor c = let s = c .before .before .before .before .before .before .before .before in omega (arith, s .pre .1 .0 .0 .firsts, s .pre .1 .1 .0)
+
+factor-requires : tie.Need-factor-requires Inv-loop μ-loop
+factor-requires c κs = let s = c .before .before .before .before .before .before .before .before in (s .pre .0 .field, s .pre .0 .is-logs)
+
+shared-slice-read-factor-2 : tie.Need-shared-slice-read-factor-2 Inv-loop μ-loop
+shared-slice-read-factor-2 c = let s = c .before .before .before .before .before .before .before .before .before .before in omega (arith, s .pre .1 .0 .0 .seconds, s .pre .1 .1 .0)
+
+factor-requires-2 : tie.Need-factor-requires-2 Inv-loop μ-loop
+factor-requires-2 c κs = let s = c .before .before .before .before .before .before .before .before .before .before in (s .pre .0 .field, s .pre .0 .is-logs)
 
 loop-holds : tie.Need-loop-holds Inv-loop μ-loop
 loop-holds c = (omega arith, refl, refl, omega arith)
 
 shared-slice-read-f : tie.Need-shared-slice-read-f Inv-loop μ-loop
-shared-slice-read-f c = let p = c .before .before .before .before .before .before .before .before .before .before .pre .1 .1 in omega (arith, c .before .loop-test .taken, c .before .before .loop .inv .1, p .2, p .3)
+shared-slice-read-f c = let p = c .before .before .before .before .before .before .before .before .before .before .before .before .before .before .pre .1 .1 in omega (arith, c .before .loop-test .taken, c .before .before .loop .inv .1, p .2, p .3)
 
 slice-write-row : tie.Need-slice-write-row Inv-loop μ-loop
 slice-write-row c = omega (arith, c .before .before .loop-test .taken)
 
 entry-requires : tie.Need-entry-requires Inv-loop μ-loop
 entry-requires c κs =
-    let s = c .before .before .before .before .before .before .before .before .before .before .before in
+    let s = c .before .before .before .before .before .before .before .before .before .before .before .before .before .before .before in
     let at = c .before .before .before .loop in
-    (s .pre .0, (s .pre .1 .0, (s .pre .1 .1 .0, omega (arith, at .inv .3, rank-next (λ t. getD (s .args .free .now) t 0) (at .i) (length (s .args .xs .now)) (omega (arith, c .before .before .loop-test .taken, at .inv .1, s .pre .1 .1 .2)), s .pre .1 .1 .4, c .if1 .left))))
+    (s .pre .0, (s .pre .1 .0, (s .pre .1 .1 .0, omega (arith, at .inv .3, rank-next (λ t. getD (s .args .free .now) t 0) (at .i) (length (s .args .xs .now)) (omega (arith, c .before .before .loop-test .taken, at .inv .1, s .pre .1 .1 .2)), s .pre .1 .1 .4, c .if1 .left), c .before .before .before .before .before .before .factor .ensures, c .before .before .before .before .factor2 .ensures)))
 
 slice-write-row-2 : tie.Need-slice-write-row-2 Inv-loop μ-loop
 slice-write-row-2 c = omega (arith, c .before .before .before .loop-test .taken)
@@ -44,12 +56,12 @@ wide-requires c κs = search needs
 
 add-s : tie.Need-add-s Inv-loop μ-loop
 add-s c =
-    let s = c .before .before .before .before .before .before .before .before .before .before .before .before in
+    let s = c .before .before .before .before .before .before .before .before .before .before .before .before .before .before .before .before in
     let at = c .before .before .before .before .loop in
     record { fits = omega (arith, at .inv .3, c .wide .ensures, rank-next (λ t. getD (s .args .free .now) t 0) (at .i) (length (s .args .xs .now)) (omega (arith, c .before .before .before .loop-test .taken, at .inv .1, s .pre .1 .1 .2)), s .pre .1 .1 .4, s .pre .1 .0 .3) }
 
 add-i : tie.Need-add-i Inv-loop μ-loop
-add-i c = let s = c .before .before .before .before .before .before .before .before .before .before .before .before in record { fits = omega (arith, c .before .before .before .loop-test .taken, c .before .before .before .before .loop .inv .1, s .pre .1 .1 .2, s .pre .1 .0 .3) }
+add-i c = let s = c .before .before .before .before .before .before .before .before .before .before .before .before .before .before .before .before in record { fits = omega (arith, c .before .before .before .loop-test .taken, c .before .before .before .before .loop .inv .1, s .pre .1 .1 .2, s .pre .1 .0 .3) }
 
 loop-less : tie.Need-loop-less Inv-loop μ-loop
 loop-less c = search needs
@@ -57,7 +69,7 @@ loop-less c = search needs
 loop-again : tie.Need-loop-again Inv-loop μ-loop
 loop-again c =
     let at = c .before .before .before .before .loop in
-    let a = c .before .before .before .before .before .before .before .before .before .before .before .before .args in
+    let a = c .before .before .before .before .before .before .before .before .before .before .before .before .before .before .before .before .args in
     let g = entryAt (a .m) (a .xs .now) (a .l .now) (a .u .now) (a .a .now) (a .b .now) (a .count) (a .j) in
     let rule = symbolAt (a .count) (a .free .now) g in
     let came = c .before .if1 .came in (
@@ -79,8 +91,8 @@ same-length c = simp length-set (c .before .loop .inv .1)
 returns : tie.Need-returns Inv-loop μ-loop
 returns c =
     let at = c .before .loop in
-    let a = c .before .before .before .before .before .before .before .before .before .args in
-    let full : at .i ≡ length (a .xs .now) = omega (arith, at .inv .1, c .before .before .before .before .before .before .before .before .before .pre .1 .1 .2) in
+    let a = c .before .before .before .before .before .before .before .before .before .before .before .before .before .args in
+    let full : at .i ≡ length (a .xs .now) = omega (arith, at .inv .1, c .before .before .before .before .before .before .before .before .before .before .before .before .before .pre .1 .1 .2) in
     let rule = symbolAt (a .count) (a .free .now) (entryAt (a .m) (a .xs .now) (a .l .now) (a .u .now) (a .a .now) (a .b .now) (a .count) (a .j)) in
     ap (λ r. set r (a .c) 1) (at .inv .2 ∙ filled-all rule (a .row .now) (at .i) (omega arith) ∙ ap (table rule) full)
 
@@ -90,6 +102,10 @@ fill-row-spec =
     (tie.spec
     Inv-loop
     μ-loop
+    shared-slice-read-factor
+    factor-requires
+    shared-slice-read-factor-2
+    factor-requires-2
     loop-holds
     shared-slice-read-f
     slice-write-row
