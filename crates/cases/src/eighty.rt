@@ -150,12 +150,12 @@ fn is_dependent(state: &mut u64, xs: &[u8], ys: &[u8]) -> bool {
     number_of(pick(code(), xs, ys, &chosen, &mut out, &mut working())) == 12
 }
 
-// How many of 10,000 random choices are dependent.
+// How many of 100,000 random choices are dependent.
 fn share(xs: &[u8], ys: &[u8]) -> u64 {
     let mut state: u64 = 88172645463325252;
     let mut n: u64 = 0;
     let mut i: u32 = 0;
-    while i < 10000 {
+    while i < 100_000 {
         n = counted(n, is_dependent(&mut state, xs, ys));
         i += 1;
     }
@@ -184,8 +184,8 @@ fn lines(xs: &[u8; 80], ys: &[u8; 80]) {
     close(t);
     let n = share(xs, ys);
     show(b"80 points, k = 60: ", n);
-    write(b" of 10000 choices dependent, about one in 81: ");
-    if 100 <= n && n <= 153 {
+    write(b" of 100000 choices dependent, about one in 81: ");
+    if 1_100 <= n && n <= 1_380 {
         write(b"yes\n")
     } else {
         write(b"no\n")
