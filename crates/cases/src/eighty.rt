@@ -1,9 +1,11 @@
 // The curve 0,0,1,0,0 over 64 elements, with 80 points and k = 60: a day in a block, and the share of dependent choices.
 use crate::choose::at_random;
 use crate::choose::try_places;
+use crate::hourly::known_packing;
 use crate::known::curve_a;
 use crate::lists::ascending;
 use crate::lists::gather;
+use crate::lists::same_means;
 use crate::memory::symbols;
 use crate::memory::working;
 use crate::tally::Tally;
@@ -62,20 +64,6 @@ fn day() -> [i16; 24] {
         8192,
         16384,
     ]
-}
-
-fn same_means(a: &[i16], b: &[i16]) -> bool {
-    if a.len() != b.len() {
-        return false;
-    }
-    let mut i = 0;
-    while i < a.len() {
-        if a[i] != b[i] {
-            return false;
-        }
-        i += 1;
-    }
-    true
 }
 
 // The place that is sent in a slot: steps of 3, so that an arc leaves no 30 whole pairs of opposite points.
@@ -175,6 +163,8 @@ fn choices(xs: &[u8; 80], ys: &[u8; 80]) -> Tally {
 }
 
 fn lines(xs: &[u8; 80], ys: &[u8; 80]) {
+    write(b"known cases, packing");
+    close(known_packing(xs, ys));
     write(b"80 points, a day of 24 hours, 80 arcs of 20 slots lost");
     close(days(xs, ys));
     let t = choices(xs, ys);
