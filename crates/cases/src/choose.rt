@@ -7,7 +7,6 @@ use crate::lists::shuffle;
 use crate::memory::equations;
 use crate::memory::places;
 use crate::memory::symbols;
-use crate::memory::working;
 use crate::random::below;
 use crate::tally::Tally;
 use crate::trial::compare_all;
@@ -131,7 +130,6 @@ fn try_lent(
     out: &mut [u8],
     out_word: &mut [u8],
     picked: &mut [u16],
-    work: &mut [u8],
 ) -> Tally {
     take_symbols(state, code.field, xs, ys, places, symbols, function, word);
     compare_all(
@@ -148,7 +146,6 @@ fn try_lent(
         out,
         out_word,
         picked,
-        work,
     )
 }
 
@@ -190,6 +187,5 @@ pub fn try_places(
         &mut out[..k],
         &mut out_word[..n],
         &mut picked[..k],
-        &mut working(),
     )
 }

@@ -3,9 +3,11 @@ use crate::lists::blank;
 use crate::lists::fill;
 use crate::lists::same_marked;
 use crate::lists::scatter;
+use crate::memory::working;
 use crate::second::Found;
 use crate::tally::Tally;
 use crate::tally::number_of;
+use blocks::plain::plain;
 use check::same;
 use coder::pick::pick;
 use coder::rebuild::rebuild;
@@ -39,6 +41,21 @@ pub fn rebuild_number(s: usize, k: usize, found: Found) -> u64 {
     n
 }
 
+// Plain of a function, beside its word.
+pub fn compare_plain(
+    t: Tally,
+    code: Parameters,
+    xs: &[u8],
+    ys: &[u8],
+    function: &[u8],
+    word: &[u8],
+    out: &mut [u8],
+) -> Tally {
+    fill(out, UNWRITTEN);
+    let answer = plain(code, xs, ys, function, out);
+    t.compared(number_of(answer) == 0 && same(word, out))
+}
+
 // Pick, beside the first k places that the equations mark as new.
 pub fn compare_pick(
     t: Tally,
@@ -49,10 +66,9 @@ pub fn compare_pick(
     marks: &[u8],
     number: u64,
     out: &mut [u16],
-    work: &mut [u8],
 ) -> Tally {
     blank(out);
-    let answer = pick(code, xs, ys, places, out, work);
+    let answer = pick(code, xs, ys, places, out, &mut working());
     let u = t.compared(number_of(answer) == number);
     if number != 0 {
         return u;
@@ -71,10 +87,9 @@ pub fn compare_rebuild(
     number: u64,
     word: &[u8],
     out: &mut [u8],
-    work: &mut [u8],
 ) -> Tally {
     fill(out, UNWRITTEN);
-    let answer = rebuild(code, xs, ys, places, symbols, out, work);
+    let answer = rebuild(code, xs, ys, places, symbols, out, &mut working());
     let u = t.compared(number_of(answer) == number);
     if number != 0 {
         return u;
@@ -94,11 +109,10 @@ pub fn compare_recover(
     function: &[u8],
     out: &mut [u8],
     received: &mut [u8],
-    work: &mut [u8],
 ) -> Tally {
     fill(out, UNWRITTEN);
     scatter(symbols, places, received);
-    let answer = recover(code, xs, ys, received, out, work);
+    let answer = recover(code, xs, ys, received, out, &mut working());
     let u = t.compared(number_of(answer) == number);
     if number != 0 {
         return u;
@@ -117,10 +131,9 @@ pub fn compare_function(
     number: u64,
     function: &[u8],
     out: &mut [u8],
-    work: &mut [u8],
 ) -> Tally {
     fill(out, UNWRITTEN);
-    let answer = systematic_function(code, xs, ys, places, symbols, out, work);
+    let answer = systematic_function(code, xs, ys, places, symbols, out, &mut working());
     let u = t.compared(number_of(answer) == number);
     if number != 0 {
         return u;
@@ -139,10 +152,9 @@ pub fn compare_word(
     number: u64,
     word: &[u8],
     out: &mut [u8],
-    work: &mut [u8],
 ) -> Tally {
     fill(out, UNWRITTEN);
-    let answer = systematic_word(code, xs, ys, places, symbols, out, work);
+    let answer = systematic_word(code, xs, ys, places, symbols, out, &mut working());
     let u = t.compared(number_of(answer) == number);
     if number != 0 {
         return u;
@@ -161,10 +173,9 @@ pub fn compare_relation(
     rows: &[u8],
     function: &mut [u8],
     out: &mut [u8],
-    work: &mut [u8],
 ) -> Tally {
     fill(out, UNWRITTEN);
-    let answer = relation(code, xs, ys, places, out, work);
+    let answer = relation(code, xs, ys, places, out, &mut working());
     if !dependent {
         return t.compared(number_of(answer) == 15);
     }

@@ -1,9 +1,11 @@
 // The curve 0,0,1,0,0 over 64 elements, with 80 points and k = 60: a day in a block, and the share of dependent choices.
 use crate::choose::at_random;
 use crate::choose::try_places;
+use crate::hourly::known_packing;
 use crate::known::curve_a;
 use crate::lists::ascending;
 use crate::lists::gather;
+use crate::lists::same_means;
 use crate::memory::symbols;
 use crate::memory::working;
 use crate::tally::Tally;
@@ -62,20 +64,6 @@ fn day() -> [i16; 24] {
         8192,
         16384,
     ]
-}
-
-fn same_means(a: &[i16], b: &[i16]) -> bool {
-    if a.len() != b.len() {
-        return false;
-    }
-    let mut i = 0;
-    while i < a.len() {
-        if a[i] != b[i] {
-            return false;
-        }
-        i += 1;
-    }
-    true
 }
 
 // The place that is sent in a slot: steps of 3, so that an arc leaves no 30 whole pairs of opposite points.
@@ -150,12 +138,12 @@ fn is_dependent(state: &mut u64, xs: &[u8], ys: &[u8]) -> bool {
     number_of(pick(code(), xs, ys, &chosen, &mut out, &mut working())) == 12
 }
 
-// How many of 10,000 random choices are dependent.
+// How many of 100,000 random choices are dependent.
 fn share(xs: &[u8], ys: &[u8]) -> u64 {
     let mut state: u64 = 88172645463325252;
     let mut n: u64 = 0;
     let mut i: u32 = 0;
-    while i < 10000 {
+    while i < 100_000 {
         n = counted(n, is_dependent(&mut state, xs, ys));
         i += 1;
     }
@@ -175,6 +163,8 @@ fn choices(xs: &[u8; 80], ys: &[u8; 80]) -> Tally {
 }
 
 fn lines(xs: &[u8; 80], ys: &[u8; 80]) {
+    write(b"known cases, packing");
+    close(known_packing(xs, ys));
     write(b"80 points, a day of 24 hours, 80 arcs of 20 slots lost");
     close(days(xs, ys));
     let t = choices(xs, ys);
@@ -184,8 +174,8 @@ fn lines(xs: &[u8; 80], ys: &[u8; 80]) {
     close(t);
     let n = share(xs, ys);
     show(b"80 points, k = 60: ", n);
-    write(b" of 10000 choices dependent, about one in 81: ");
-    if 100 <= n && n <= 153 {
+    write(b" of 100000 choices dependent, about one in 81: ");
+    if 1_100 <= n && n <= 1_380 {
         write(b"yes\n")
     } else {
         write(b"no\n")

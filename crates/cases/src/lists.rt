@@ -177,6 +177,21 @@ pub fn same_places(a: &[u16], b: &[u16]) -> bool {
     true
 }
 
+// Whether two lists of means are the same.
+pub fn same_means(a: &[i16], b: &[i16]) -> bool {
+    if a.len() != b.len() {
+        return false;
+    }
+    let mut i = 0;
+    while i < a.len() {
+        if a[i] != b[i] {
+            return false;
+        }
+        i += 1;
+    }
+    true
+}
+
 // Whether the list starts with the other.
 pub fn starts(list: &[u8], with: &[u8]) -> bool {
     let mut i = 0;

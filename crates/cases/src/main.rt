@@ -5,6 +5,7 @@ mod choose;
 mod codes;
 mod compare;
 mod eighty;
+mod hourly;
 mod known;
 mod lists;
 mod memory;
@@ -26,6 +27,7 @@ fn main() {
     group(b"known cases, points", known::known_points());
     group(b"known cases, functions", known::known_functions());
     group(b"known cases, k = 0 and k = 8", known::known_dimensions());
+    group(b"known cases, hourly means", hourly::known_means());
     choices::all_a();
     choices::all_b();
     codes::random_codes();

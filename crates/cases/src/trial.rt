@@ -1,6 +1,8 @@
 // A trial: places and symbols, in all operations and in the second coder. Every list is as long as its number of entries.
+// The second coder's function is f, its word c.
 use crate::compare::compare_function;
 use crate::compare::compare_pick;
+use crate::compare::compare_plain;
 use crate::compare::compare_rebuild;
 use crate::compare::compare_recover;
 use crate::compare::compare_relation;
@@ -12,49 +14,27 @@ use crate::second::find;
 use crate::tally::Tally;
 use codewords::Parameters;
 
-// The operations that take any number of places.
+// The operations that take any number of places, and Plain.
 fn compare_any(
     t: Tally,
     code: Parameters,
     xs: &[u8],
     ys: &[u8],
     places: &[u16],
-    symbols: &[u8],
-    number: u64,
-    function: &[u8],
-    word: &[u8],
+    given: &[u8],
+    found: Found,
+    f: &[u8],
+    c: &[u8],
     out: &mut [u8],
     out_word: &mut [u8],
-    work: &mut [u8],
 ) -> Tally {
-    let u = compare_rebuild(
-        t,
-        code,
-        xs,
-        ys,
-        places,
-        symbols,
-        number,
-        word,
-        out_word,
-        work,
-    );
+    let number = rebuild_number(places.len(), code.k, found);
+    let u = compare_plain(t, code, xs, ys, f, c, out_word);
+    let v = compare_rebuild(u, code, xs, ys, places, given, number, c, out_word);
     if places.len() != xs.len() {
-        return u;
+        return v;
     }
-    compare_recover(
-        u,
-        code,
-        xs,
-        ys,
-        places,
-        symbols,
-        number,
-        function,
-        out,
-        out_word,
-        work,
-    )
+    compare_recover(v, code, xs, ys, places, given, number, f, out, out_word)
 }
 
 // The operations that take k places; 12 stands for dependent ones.
@@ -64,91 +44,20 @@ fn compare_choice(
     xs: &[u8],
     ys: &[u8],
     places: &[u16],
-    symbols: &[u8],
-    number: u64,
-    function: &[u8],
-    word: &[u8],
-    out: &mut [u8],
-    out_word: &mut [u8],
-    work: &mut [u8],
-) -> Tally {
-    let u = compare_function(
-        t,
-        code,
-        xs,
-        ys,
-        places,
-        symbols,
-        number,
-        function,
-        out,
-        work,
-    );
-    let v = compare_word(
-        u,
-        code,
-        xs,
-        ys,
-        places,
-        symbols,
-        number,
-        word,
-        out_word,
-        work,
-    );
-    v.chosen(number == 12)
-}
-
-// The operations that give a word or a function.
-fn compare_words(
-    t: Tally,
-    code: Parameters,
-    xs: &[u8],
-    ys: &[u8],
-    places: &[u16],
-    symbols: &[u8],
+    given: &[u8],
     found: Found,
-    function: &[u8],
-    word: &[u8],
+    f: &[u8],
+    c: &[u8],
     out: &mut [u8],
     out_word: &mut [u8],
-    work: &mut [u8],
 ) -> Tally {
-    let s = places.len();
-    let k = code.k;
-    let rebuilt = rebuild_number(s, k, found);
-    let u = compare_any(
-        t,
-        code,
-        xs,
-        ys,
-        places,
-        symbols,
-        rebuilt,
-        function,
-        word,
-        out,
-        out_word,
-        work,
-    );
-    if s != k {
-        return u;
+    if places.len() != code.k {
+        return t;
     }
-    let number = pick_number(s, k, found);
-    compare_choice(
-        u,
-        code,
-        xs,
-        ys,
-        places,
-        symbols,
-        number,
-        function,
-        word,
-        out,
-        out_word,
-        work,
-    )
+    let number = pick_number(places.len(), code.k, found);
+    let u = compare_function(t, code, xs, ys, places, given, number, f, out);
+    let v = compare_word(u, code, xs, ys, places, given, number, c, out_word);
+    v.chosen(number == 12)
 }
 
 // Those that tell which places are dependent.
@@ -161,30 +70,16 @@ fn compare_places(
     found: Found,
     marks: &[u8],
     rows: &[u8],
-    function: &mut [u8],
+    f: &mut [u8],
     out: &mut [u8],
     picked: &mut [u16],
-    work: &mut [u8],
 ) -> Tally {
-    let s = places.len();
-    let k = code.k;
-    let number = pick_number(s, k, found);
-    let u = compare_pick(t, code, xs, ys, places, marks, number, picked, work);
-    if s != k {
+    let number = pick_number(places.len(), code.k, found);
+    let u = compare_pick(t, code, xs, ys, places, marks, number, picked);
+    if places.len() != code.k {
         return u;
     }
-    compare_relation(
-        u,
-        code,
-        xs,
-        ys,
-        places,
-        number == 12,
-        rows,
-        function,
-        out,
-        work,
-    )
+    compare_relation(u, code, xs, ys, places, number == 12, rows, f, out)
 }
 
 // All operations over the places, beside what the second coder found.
@@ -194,46 +89,20 @@ fn compare_found(
     xs: &[u8],
     ys: &[u8],
     places: &[u16],
-    symbols: &[u8],
+    given: &[u8],
     found: Found,
     marks: &[u8],
     rows: &[u8],
-    function: &mut [u8],
-    word: &[u8],
+    f: &mut [u8],
+    c: &[u8],
     out: &mut [u8],
     out_word: &mut [u8],
     picked: &mut [u16],
-    work: &mut [u8],
 ) -> Tally {
     let u = t.compared(found.taken);
-    let v = compare_words(
-        u,
-        code,
-        xs,
-        ys,
-        places,
-        symbols,
-        found,
-        function,
-        word,
-        out,
-        out_word,
-        work,
-    );
-    compare_places(
-        v,
-        code,
-        xs,
-        ys,
-        places,
-        found,
-        marks,
-        rows,
-        function,
-        out,
-        picked,
-        work,
-    )
+    let v = compare_any(u, code, xs, ys, places, given, found, f, c, out, out_word);
+    let w = compare_choice(v, code, xs, ys, places, given, found, f, c, out, out_word);
+    compare_places(w, code, xs, ys, places, found, marks, rows, f, out, picked)
 }
 
 // All operations over the places, beside the second coder.
@@ -243,42 +112,30 @@ pub fn compare_all(
     xs: &[u8],
     ys: &[u8],
     places: &[u16],
-    symbols: &[u8],
+    given: &[u8],
     marks: &mut [u8],
     rows: &mut [u8],
-    function: &mut [u8],
-    word: &mut [u8],
+    f: &mut [u8],
+    c: &mut [u8],
     out: &mut [u8],
     out_word: &mut [u8],
     picked: &mut [u16],
-    work: &mut [u8],
 ) -> Tally {
-    let found = find(
-        code.field,
-        xs,
-        ys,
-        places,
-        symbols,
-        marks,
-        rows,
-        function,
-        word,
-    );
+    let found = find(code.field, xs, ys, places, given, marks, rows, f, c);
     compare_found(
         t,
         code,
         xs,
         ys,
         places,
-        symbols,
+        given,
         found,
         marks,
         rows,
-        function,
-        word,
+        f,
+        c,
         out,
         out_word,
         picked,
-        work,
     )
 }

@@ -89,12 +89,6 @@ array-borrow-prefix-picked c = search needs
 slice-aggregate-try-lent-9 : tie.Need-slice-aggregate-try-lent-9
 slice-aggregate-try-lent-9 c = part _ _ (c .before .before .before .before .before .before .before .before .before .before .before .before .before .before .before .places2 .ensures) (c .before .before .before .before .before .before .before .before .before .before .before .before .before .before .before .before .before .before .before .before .before .before .before .before .before .pre .1)
 
-working-requires : tie.Need-working-requires
-working-requires c κs = search needs
-
-slice-aggregate-try-lent-10 : tie.Need-slice-aggregate-try-lent-10
-slice-aggregate-try-lent-10 c = search needs
-
 try-lent-requires : tie.Need-try-lent-requires
 try-lent-requires c κs = search needs
 
@@ -133,7 +127,5 @@ try-places-spec =
     slice-aggregate-try-lent-8
     array-borrow-prefix-picked
     slice-aggregate-try-lent-9
-    working-requires
-    slice-aggregate-try-lent-10
     try-lent-requires
     returns)

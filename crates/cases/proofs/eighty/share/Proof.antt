@@ -5,10 +5,10 @@ use Rattle.cases.proofs.eighty.share.Statement.{statement}
 use Rattle.cases.proofs.eighty.share.Tie as tie
 
 abbrev Inv-loop : tie.InvT-loop
-Inv-loop xs ys state₀ n₀ i₀ state n i = i ≤ 10000
+Inv-loop xs ys state₀ n₀ i₀ state n i = i ≤ 100000
 
 abbrev μ-loop : tie.MeasureT-loop
-μ-loop xs ys state₀ n₀ i₀ state n i = 10000 - i
+μ-loop xs ys state₀ n₀ i₀ state n i = 100000 - i
 
 loop-holds : tie.Need-loop-holds Inv-loop μ-loop
 loop-holds c = search needs

@@ -2,8 +2,8 @@
 use Prim.Native.Nat.{_-_}
 use lib.ListN.{length}
 use borrow.Author.Needs.{needs}
-use Rattle.cases.proofs.eighty.same_means.Statement.{statement}
-use Rattle.cases.proofs.eighty.same_means.Tie as tie
+use Rattle.cases.proofs.lists.same_means.Statement.{statement}
+use Rattle.cases.proofs.lists.same_means.Tie as tie
 
 abbrev Inv-loop : tie.InvT-loop
 Inv-loop a b i₀ i = Unit {0}
