@@ -66,14 +66,8 @@ module _ {code : Code} {J : List ℕ} (w : Works code J) (i : MessageIndex) wher
       let l = message-listed code unit m in
       (both-left (symbols code unit) (eqb (length unit) (code .k)) m, l .size ∙ sym (w .full))
 
-  pub unit-length : length unit ≡ code .k
-  unit-length = unit-listed .1 ∙ w .full
-
   posed-unit : Posed code J unit
   posed-unit = record { placed = w .placed; are-symbols = unit-listed .0; lengths = unit-listed .1; at-least = omega (arith, w .full) }
-
-  pub unit-symbols : symbols code unit ≡ true
-  unit-symbols = unit-listed .0
 
   pub the-row : {v : List ℕ} → v ≡ solvedWord code J unit → v ≡ row code J i
   unfolding row
