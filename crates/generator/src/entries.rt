@@ -1,4 +1,5 @@
-// The entries of a row of the matrix, by its factors.
+// The entries of a row of the matrix, by its factors. A row is that of a unit message, and so has a message index.
+use basics::MessageIndex;
 use field::logarithm;
 use field::product;
 use field::product_by_log;
@@ -53,12 +54,12 @@ fn factor(m: u8, logs: &[u8; 256], a: u8) -> u8
     logarithm(m, logs, a)
 }
 
-// The entry of row j, whose factors have the logarithms la and lb, at the point with index s.
+// The entry of a row, whose factors have the logarithms la and lb, at the point with index s.
 fn entry(
     m: u8,
     powers: &[u8; 255],
     logs: &[u8; 256],
-    j: usize,
+    row: MessageIndex,
     la: u8,
     lb: u8,
     s: usize,
@@ -71,9 +72,10 @@ fn entry(
 ) -> u8
     requires { ⌜ Tables m (now powers) (now logs) ⌝ }
     requires { ⌜ RowLists (now xs) (now a) (now b) count × (length (now l) ≡ length (now xs)) × (length (now u) ≡ length (now xs)) × (length (now xs) ≤ 288) ⌝ }
-    requires { ⌜ (j < count) × (s < length (now xs)) × Factor m (getD (now a) j 0) la × Factor m (getD (now b) j 0) lb ⌝ }
-    ensures { λ r. ⌜ r ≡ entryAt m (now (xs .entry)) (now (l .entry)) (now (u .entry)) (now (a .entry)) (now (b .entry)) count j s ⌝ }
+    requires { ⌜ (row .0 < count) × (s < length (now xs)) × Factor m (getD (now a) (row .0) 0) la × Factor m (getD (now b) (row .0) 0) lb ⌝ }
+    ensures { λ r. ⌜ r ≡ entryAt m (now (xs .entry)) (now (l .entry)) (now (u .entry)) (now (a .entry)) (now (b .entry)) count (row .0) s ⌝ }
 {
+    let j = row.0;
     let x = xs[j];
     let alpha = xs[s];
     let v = l[s];
@@ -85,12 +87,12 @@ fn entry(
     quotient(m, powers, logs, top, alpha ^ x)
 }
 
-// The symbols of row j, whose own place has the index c. The points that are not chosen stand behind the first count, in their order.
+// The symbols of the row of a message index, whose own place has the index c. The points that are not chosen stand behind the first count, in their order.
 pub fn fill_row(
     m: u8,
     powers: &[u8; 255],
     logs: &[u8; 256],
-    j: usize,
+    index: MessageIndex,
     c: usize,
     count: usize,
     free: &[u8],
@@ -103,10 +105,11 @@ pub fn fill_row(
 )
     requires { ⌜ Tables m (now powers) (now logs) ⌝ }
     requires { ⌜ RowLists (now xs) (now a) (now b) count × (length (now l) ≡ length (now xs)) × (length (now u) ≡ length (now xs)) × (length (now xs) ≤ 288) ⌝ }
-    requires { ⌜ (j < count) × (c < length (now row)) × (length (now row) ≡ length (now xs)) × (length (now free) ≡ length (now xs))
+    requires { ⌜ (index .0 < count) × (c < length (now row)) × (length (now row) ≡ length (now xs)) × (length (now free) ≡ length (now xs))
         × (count + rank (λ i. getD (now free) i 0) (length (now xs)) ≤ length (now xs)) ⌝ }
-    ensures { λ _. ⌜ now (row .exit) ≡ set (table (symbolAt count (now (free .entry)) (entryAt m (now (xs .entry)) (now (l .entry)) (now (u .entry)) (now (a .entry)) (now (b .entry)) count j)) (length (now (xs .entry)))) c 1 ⌝ }
+    ensures { λ _. ⌜ now (row .exit) ≡ set (table (symbolAt count (now (free .entry)) (entryAt m (now (xs .entry)) (now (l .entry)) (now (u .entry)) (now (a .entry)) (now (b .entry)) count (index .0))) (length (now (xs .entry)))) c 1 ⌝ }
 {
+    let j = index.0;
     let la = factor(m, logs, a[j]);
     let lb = factor(m, logs, b[j]);
     let mut s = count;
@@ -116,7 +119,7 @@ pub fn fill_row(
         if f == 0 {
             row[i] = 0;
         } else {
-            row[i] = entry(m, powers, logs, j, la, lb, s, count, xs, l, u, a, b);
+            row[i] = entry(m, powers, logs, index, la, lb, s, count, xs, l, u, a, b);
         }
         s += wide(f);
         i += 1;

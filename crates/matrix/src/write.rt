@@ -1,4 +1,5 @@
 // The rows of Matrix: the points with the chosen ones first, the factors of the rows, and then the symbols of each row, in its own part of the buffer.
+use basics::MessageIndex;
 use basics::Place;
 use codewords::Parameters;
 use engine::pair::Sizes;
@@ -71,7 +72,8 @@ fn fill_rows(
         let start = i * n;
         let end = start + n;
         let row = &mut out[start..end];
-        fill_row(m, powers, logs, i, c, k, free, px, l, u, a, b, row);
+        let index = MessageIndex(i);
+        fill_row(m, powers, logs, index, c, k, free, px, l, u, a, b, row);
         i += 1;
     }
 }

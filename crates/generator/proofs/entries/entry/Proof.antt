@@ -21,7 +21,7 @@ column-sum-requires : tie.Need-column-sum-requires
 column-sum-requires c κs = search needs
 
 returns : tie.Need-returns
-returns c = let a = c .before .before .before .before .before .before .before .before .before .before .before .args in entry-over (a .m) (a .xs .now) (a .l .now) (a .u .now) (a .a .now) (a .b .now) (a .count) (a .j) (a .s) (c .before .if1 .taken) (c .column-sum .ensures)
+returns c = let a = c .before .before .before .before .before .before .before .before .before .before .before .args in entry-over (a .m) (a .xs .now) (a .l .now) (a .u .now) (a .a .now) (a .b .now) (a .count) (a .row .0) (a .s) (c .before .if1 .taken) (c .column-sum .ensures)
 
 product-by-log-requires : tie.Need-product-by-log-requires
 product-by-log-requires c κs = search needs
@@ -37,8 +37,8 @@ returns-2 c =
     let s = c .before .before .before .before .before .before .before .before .before .before .before .before .before in
     let a = s .args in
     let f = s .pre .1 .1 in
-    entry-away (a .m) (a .xs .now) (a .l .now) (a .u .now) (a .a .now) (a .b .now) (a .count) (a .j) (a .s) (c .before .before .before .if1 .left)
-    (quotient-by (a .m) _ _ _ (a .xs .now) (a .a .now) (a .b .now) (a .j) (c .before .before .product-by-log .ensures ∙ f .2 .times _) (c .before .product-by-log2 .ensures ∙ f .3 .times _) (c .quotient .ensures))
+    entry-away (a .m) (a .xs .now) (a .l .now) (a .u .now) (a .a .now) (a .b .now) (a .count) (a .row .0) (a .s) (c .before .before .before .if1 .left)
+    (quotient-by (a .m) _ _ _ (a .xs .now) (a .a .now) (a .b .now) (a .row .0) (c .before .before .product-by-log .ensures ∙ f .2 .times _) (c .before .product-by-log2 .ensures ∙ f .3 .times _) (c .quotient .ensures))
 
 pub entry-spec : {M : Type 1} → statement M
 entry-spec =

@@ -16,10 +16,10 @@ use Rattle.generator.proofs.entries.fill_row.Statement.{statement}
 use Rattle.generator.proofs.entries.fill_row.Tie as tie
 
 abbrev Inv-loop : tie.InvT-loop
-Inv-loop m powers logs j c count free xs l u a b row₀ la lb s₀ i₀ row s i = (i ≤ length row₀) × (length row ≡ length row₀) × (row ≡ filled (symbolAt count free (entryAt m xs l u a b count j)) row₀ i) × (s ≡ count + rank (λ t. getD free t 0) i)
+Inv-loop m powers logs index c count free xs l u a b row₀ j la lb s₀ i₀ row s i = (i ≤ length row₀) × (length row ≡ length row₀) × (row ≡ filled (symbolAt count free (entryAt m xs l u a b count (index .0))) row₀ i) × (s ≡ count + rank (λ t. getD free t 0) i)
 
 abbrev μ-loop : tie.MeasureT-loop
-μ-loop m powers logs j c count free xs l u a b row₀ la lb s₀ i₀ row s i = length row₀ - i
+μ-loop m powers logs index c count free xs l u a b row₀ j la lb s₀ i₀ row s i = length row₀ - i
 
 shared-slice-read-factor : tie.Need-shared-slice-read-factor Inv-loop μ-loop
 shared-slice-read-factor c = let s = c .before .before .before .before .before .before .before .before in omega (arith, s .pre .1 .0 .0 .firsts, s .pre .1 .1 .0)
@@ -70,7 +70,7 @@ loop-again : tie.Need-loop-again Inv-loop μ-loop
 loop-again c =
     let at = c .before .before .before .before .loop in
     let a = c .before .before .before .before .before .before .before .before .before .before .before .before .before .before .before .before .args in
-    let g = entryAt (a .m) (a .xs .now) (a .l .now) (a .u .now) (a .a .now) (a .b .now) (a .count) (a .j) in
+    let g = entryAt (a .m) (a .xs .now) (a .l .now) (a .u .now) (a .a .now) (a .b .now) (a .count) (a .index .0) in
     let rule = symbolAt (a .count) (a .free .now) g in
     let came = c .before .if1 .came in (
       omega arith,
@@ -93,7 +93,7 @@ returns c =
     let at = c .before .loop in
     let a = c .before .before .before .before .before .before .before .before .before .before .before .before .before .args in
     let full : at .i ≡ length (a .xs .now) = omega (arith, at .inv .1, c .before .before .before .before .before .before .before .before .before .before .before .before .before .pre .1 .1 .2) in
-    let rule = symbolAt (a .count) (a .free .now) (entryAt (a .m) (a .xs .now) (a .l .now) (a .u .now) (a .a .now) (a .b .now) (a .count) (a .j)) in
+    let rule = symbolAt (a .count) (a .free .now) (entryAt (a .m) (a .xs .now) (a .l .now) (a .u .now) (a .a .now) (a .b .now) (a .count) (a .index .0)) in
     ap (λ r. set r (a .c) 1) (at .inv .2 ∙ filled-all rule (a .row .now) (at .i) (omega arith) ∙ ap (table rule) full)
 
 pub fill-row-spec : {M : Type 1} → statement M
