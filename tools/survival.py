@@ -1,20 +1,20 @@
 #!/usr/bin/env python3
-"""Draws docs/survival.svg: how many blocks of 80 places survive a deaf arc of 0 to 40 slots. Standard library only.
+"""Draws docs/survival.svg: how many days survive a deaf arc of 0 to 40 slots, by each version of the coder. Standard library only.
 
     rt staticlib abi && python3 tools/survival.py
 
-Every number comes from calls of the proved archive. A block is a day: 24 random means, some absent, go through Pack, Pick and Systematic word
-(m = 6, curve 0,0,1,0,0, k = 60, the 80 points of Points). The shell turns once in 80 slots, and one place is sent in each slot; the deaf arc
-covers so many slots one after the other, from each of the 80 slots on, and runs on over the end. What is left goes through Heard, Rebuild and
-Unpack. A block survives if the codeword and all means come back; the script stops if ever a wrong one does.
+A day is 24 random means, some absent. The shell turns once in 80 slots; the deaf arc covers so many slots one after the other, from each of the 80
+slots on, and runs on over the end. A day survives if all its means come back; the script stops if ever a wrong one does.
 
-This coder is drawn for two orders of sending: places 1, 2, 3, .. as Points lists them, and each time STRIDE places further. Opposite points stand
+Version one sends each mean three times in a row, a mean in a slot: 72 of the 80 slots. Version two packs the day into 60 symbols of the field of 64 and
+sends a Reed-Solomon block of 64 places, any 60 of which are enough. Version three sends a codeword of 80 places with the 60 symbols in the first 60 of
+them, and cannot fill in a missing one. Version four is this coder, and every number of its lines comes from calls of the proved archive: Pack, Pick,
+Systematic word, Heard, Rebuild and Unpack (m = 6, curve 0,0,1,0,0, k = 60, the 80 points of Points).
+
+Version four is drawn for two orders of sending: places 1, 2, 3, .. as Points lists them, and each time STRIDE places further. Opposite points stand
 side by side in the first order, so that an arc of 20 slots from an odd place on leaves 30 pairs of opposite points, and these are dependent. Of the
 strides below 40 that reach all places, 3, 17, 27 and 39 leave dependent places at no start of such an arc, 1 at 40 of the 80, and the others at 1
 to 3.
-
-Three simpler ways stand beside it, since no document of the project says what older versions of the coder did: the 60 symbols sent once, the first 20
-of them twice, and the same code with the first 60 heard places taken as they come.
 """
 import ctypes
 import pathlib
@@ -29,7 +29,7 @@ PICTURE = ROOT / "docs/survival.svg"
 
 FIELD, CURVE, K, HOURS = 6, (0, 0, 1, 0, 0), 60, 24
 ARCS = range(41)
-BLOCKS = 50
+DAYS = 50
 STRIDE = 3
 ABSENT = 32767
 
@@ -106,40 +106,38 @@ def random_day():
     return [ABSENT if random.random() < 0.05 else random.randint(-2000, 20000) for _ in range(HOURS)]
 
 
-def survives(coder, chosen, means, word, heard):
+def version_one(coder, chosen, means, word, heard):
+    """Slot i sends the mean with index i div 3: whether each was heard at least once."""
+    told = {(slot - 1) // 3 for slot in heard}
+    return all(hour in told for hour in range(HOURS))
+
+
+def version_two(coder, chosen, means, word, heard):
+    """The first 64 slots send a block of which any 60 places are enough."""
+    return sum(slot <= 64 for slot in heard) >= K
+
+
+def version_three(coder, chosen, means, word, heard):
+    """The message stands in the first 60 places, and every one of them is needed."""
+    return sum(place <= K for place in heard) == K
+
+
+def version_four(coder, chosen, means, word, heard):
     """Whether the means come back from the heard places; a wrong codeword or mean ends the script."""
     rebuilt = coder.rebuild(heard, [word[p - 1] for p in heard])
     if rebuilt is None:
         return False
     if rebuilt != word or coder.unpack([rebuilt[p - 1] for p in chosen]) != means:
-        sys.exit("a block came back wrong")
+        sys.exit("a day came back wrong")
     return True
 
 
-def by_first_places(coder, chosen, means, word, heard):
-    """The same by k places alone, whichever were heard first."""
-    return len(heard) >= K and survives(coder, chosen, means, word, heard[:K])
-
-
-def uncoded(copies):
-    """Slot i sends symbol i, and the last slots the first symbols again, so many of them: whether each was heard at least once."""
-
-    def test(coder, chosen, means, word, heard):
-        told = {p - 1 for p in heard if p <= K} | {p - 1 - K for p in heard if K < p <= K + copies}
-        if len(told) < K:
-            return False
-        block = [word[p - 1] for p in chosen]
-        return coder.unpack([block[i] for i in sorted(told)]) == means
-
-    return test
-
-
 def shares(coder, stride, test):
-    """For each arc the share, in percent, of blocks and arc starts at which a block survives the test."""
+    """For each arc the share, in percent, of days and arc starts at which a day survives the test."""
     n = coder.n
     order = [i * stride % n + 1 for i in range(n)]
     chosen = coder.pick(range(1, n + 1))
-    days = [random_day() for _ in range(BLOCKS)]
+    days = [random_day() for _ in range(DAYS)]
     words = [coder.word(chosen, coder.pack(means)) for means in days]
     result = []
     for arc in ARCS:
@@ -148,7 +146,7 @@ def shares(coder, stride, test):
             deaf = {order[(start + i) % n] for i in range(arc)}
             heard = coder.heard(mask_of(p for p in order if p not in deaf))
             kept += sum(test(coder, chosen, means, word, heard) for means, word in zip(days, words))
-        result.append(100 * kept / (n * BLOCKS))
+        result.append(100 * kept / (n * DAYS))
     return result
 
 
@@ -177,8 +175,8 @@ def curve(values, colour, dashes):
 def drawing(lines):
     """lines: name, colour, dashes, values."""
     parts = ['<rect width="740" height="450" fill="white"/>']
-    parts.append(text(LEFT + WIDTH / 2, 26, "Blocks of 80 places that survive a deaf arc", size=18))
-    parts.append(text(LEFT + WIDTH / 2, 46, f"field of 64 elements, 60 symbols a block (24 hours), {BLOCKS} random days, every start of the arc"))
+    parts.append(text(LEFT + WIDTH / 2, 26, "Days of 24 hourly means that survive a deaf arc", size=18))
+    parts.append(text(LEFT + WIDTH / 2, 46, f"{DAYS} random days, every start of the arc"))
     for percent in range(0, 101, 25):
         y = down(percent)
         parts.append(f'<line x1="{LEFT}" y1="{y:g}" x2="{LEFT + WIDTH}" y2="{y:g}" stroke="#ccc"/>')
@@ -190,13 +188,13 @@ def drawing(lines):
     parts.append(f'<rect x="{LEFT}" y="{TOP}" width="{WIDTH}" height="{HEIGHT}" fill="none" stroke="black"/>')
     parts.append(text(LEFT + WIDTH / 2, TOP + HEIGHT + 42, "deaf slots, one after the other, of the 80 in a turn"))
     middle = TOP + HEIGHT / 2
-    parts.append(text(18, middle, "blocks rebuilt", more=f' transform="rotate(-90 18 {middle:g})"'))
+    parts.append(text(18, middle, "days that come back", more=f' transform="rotate(-90 18 {middle:g})"'))
     for i, (name, colour, dashes, values) in enumerate(lines):
         parts.append(curve(values, colour, dashes))
         y = TOP + 40 + 24 * i
-        parts.append(f'<line x1="415" y1="{y}" x2="447" y2="{y}" stroke="{colour}" stroke-width="2"{dashes}/>')
-        parts.append(text(455, y + 4, name, "start"))
-    parts.append(text(LEFT + WIDTH / 2, 438, "No block came back wrong: each was rebuilt whole or refused.", size=12))
+        parts.append(f'<line x1="405" y1="{y}" x2="437" y2="{y}" stroke="{colour}" stroke-width="2"{dashes}/>')
+        parts.append(text(445, y + 4, name, "start"))
+    parts.append(text(LEFT + WIDTH / 2, 438, "With version four no day came back wrong: each was rebuilt whole or refused.", size=12))
     body = "\n".join(parts)
     return f'<svg xmlns="http://www.w3.org/2000/svg" viewBox="0 0 740 450" width="740" height="450" font-family="sans-serif">\n{body}\n</svg>\n'
 
@@ -205,11 +203,11 @@ def main():
     random.seed(1)
     coder = Coder()
     lines = [
-        ("no code: 60 symbols, each once", "#909090", "", shares(coder, 1, uncoded(0))),
-        ("no code: 20 of the 60 symbols twice", "#606060", ' stroke-dasharray="2 3"', shares(coder, 1, uncoded(20))),
-        ("the first 60 heard places, as they come", "#c09020", "", shares(coder, STRIDE, by_first_places)),
-        ("this coder, places in the order of Points", "#b03020", "", shares(coder, 1, survives)),
-        (f"this coder, each time {STRIDE} places further", "#2050a0", ' stroke-dasharray="6 4"', shares(coder, STRIDE, survives)),
+        ("version one: each mean three times", "#909090", "", shares(coder, 1, version_one)),
+        ("version two: any 60 of 64 places", "#606060", ' stroke-dasharray="2 3"', shares(coder, 1, version_two)),
+        ("version three: the first 60 of 80 places", "#c09020", "", shares(coder, 1, version_three)),
+        ("version four, places as Points lists them", "#b03020", "", shares(coder, 1, version_four)),
+        (f"version four, {STRIDE} places further each time", "#2050a0", ' stroke-dasharray="6 4"', shares(coder, STRIDE, version_four)),
     ]
     for name, _, _, values in lines:
         print(name + ":", " ".join(f"{v:g}" for v in values))
