@@ -3,17 +3,15 @@ use Prim.Native.Nat.{ℕ, _≤_}
 use mathlib.Core.List.{List}
 use native.Mathlib.Omega.{arith}
 use lib.IntN.{ℤ}
-use lib.ListN.{length, take, length-take}
-use Rattle.basics.specs.Lists.{table}
+use lib.ListN.{length}
 use Rattle.basics.specs.Outcome.{answer, counts}
 use Rattle.basics.proofs.Outcomes.{counts-check, counts-counted, counts-accepted}
 use Rattle.basics.proofs.Loops.{filter-table-few}
 use Rattle.field.specs.Products.{productsOutcome}
 use Rattle.elliptic.specs.declared.Curve.{Curve}
-use Rattle.field.specs.Galois.{galois}
-use Rattle.elliptic.specs.Curve.{affinePoints}
 use Rattle.codewords.specs.Code.{Code, n}
-use Rattle.curve.specs.Points.{pointsOutcome, listing}
+use Rattle.curve.specs.Points.{pointsOutcome}
+use Rattle.curve.proofs.Count.{points-counts as points-few}
 use Rattle.code.specs.Heard.{heardAt, heardPlaces, heardTested, heardOutcome}
 use Rattle.code.proofs.Tested.{counts-code}
 use Rattle.hours.specs.Means.{meansOutcome}
@@ -28,10 +26,7 @@ pub products-counts : (m : ℕ) (a b : List ℕ) (room : ℕ) → counts (answer
 products-counts m a b room = counts-check most _ _ _ (counts-check most _ _ _ (counts-check most _ _ _ (counts-accepted most _)))
 
 pub points-counts : (m : ℕ) (C : Curve) (xs ys : List ℕ) → counts (answer (pointsOutcome m C xs ys)) ≤ most
-unfolding pointsOutcome
-points-counts m C xs ys =
-    counts-check most _ _ _ (counts-check most _ _ _ (counts-check most _ _ _ (counts-check most _ _ _
-    (counts-counted most (length (take 288 (affinePoints (galois m) C))) _ (rw length-take (omega arith))))))
+points-counts m C xs ys = omega (arith, points-few m C xs ys)
 
 pub means-counts : (ts : List ℕ) (rs : List ℤ) (first hours : ℕ) → counts (answer (meansOutcome ts rs first hours)) ≤ most
 means-counts ts rs first hours =

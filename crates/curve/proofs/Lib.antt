@@ -1,5 +1,4 @@
--- The curve's equation in the form that the code computes, the test of singularity, and the loops that list points.
+-- The curve's equation in the form that the code computes, the loops that list points, and how many Points counts.
 mod Equation
-pub mod Columns
-pub mod Singular
 mod Listing
+pub mod Count

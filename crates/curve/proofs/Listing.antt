@@ -54,9 +54,11 @@ module _ {points : List Point} {xs₀ ys₀ xs ys : List ℕ} {n : ℕ} (l : Lis
   pub listed-as : {more : List Point} → points ≡ more → Listed more xs₀ ys₀ xs ys n
   listed-as e = rw e at l
 
--- the operation's outcome
-pub listed-meets : {points : List Point} {xs₀ ys₀ xs ys : List ℕ} {n : ℕ} → Listed points xs₀ ys₀ xs ys n → Meets (listing (take room points) xs₀ ys₀) (Counted n) (xs₀, ys₀) (xs, ys)
-listed-meets l = count-pair (l .number) (l .in-xs) (l .in-ys)
+-- the operation's outcome: there was room for all points
+pub listed-meets : {points : List Point} {xs₀ ys₀ xs ys : List ℕ} {n : ℕ} → length points ≤ room → Listed points xs₀ ys₀ xs ys n → Meets (listing points xs₀ ys₀) (Counted n) (xs₀, ys₀) (xs, ys)
+listed-meets {points} {xs₀} {ys₀} h l =
+    let all = take-all room points h in
+    count-pair (l .number ∙ ap length all) (l .in-xs ∙ ap (λ p. written (map (λ P. P .x) p) xs₀) all) (l .in-ys ∙ ap (λ p. written (map (λ P. P .y) p) ys₀) all)
 
 pub appends-none : (xs ys : List ℕ) (n : ℕ) → Appends [] xs ys n xs ys n
 appends-none xs ys n = record { behind = λ points xs₀ ys₀ r l. listed-as l (sym (append-nil points)) }

@@ -1,4 +1,3 @@
--- Which curves are accepted, what Points answers and leaves in the two buffers, and what its loops do.
-pub mod Singular
+-- What Points answers and leaves in the two buffers, and what its loops do.
 pub mod Points
 pub mod Listing

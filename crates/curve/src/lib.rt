@@ -10,7 +10,7 @@ ghost use Rattle.field.specs.Galois.{IsField, size, galois, product};
 ghost use Rattle.field.specs.Tables.{Tables};
 ghost use Rattle.elliptic.specs.Curve.{point, right, onCurve, opposite, singular, affinePoints};
 ghost use Rattle.elliptic.specs.Curve.{coefficientsBelow};
-ghost use Rattle.curve.specs.Singular.{candidate};
+ghost use Rattle.point_count.specs.Singular.{candidate};
 ghost use Rattle.curve.specs.Points.{pointsOutcome};
 ghost use Rattle.curve.specs.Listing.{Rooms, Appends, Listed};
 use basics::Answer;

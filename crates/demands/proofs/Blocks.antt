@@ -1,12 +1,12 @@
 -- Pack and Unpack of an accepted code are those of its width, of which the crate hours has shown that they undo each other.
-use Prim.Native.Nat.{ℕ, _+_, _*_, _-_, _^_, _≤_}
+use Prim.Native.Nat.{ℕ, _+_, _*_, _^_, _≤_}
 use mathlib.Core.Path.{_≡_, refl, sym, _∙_, ap, subst}
 use mathlib.Core.Bool.{true}
 use mathlib.Core.Logic.{_↔_}
 use mathlib.Core.List.{List, [], _∷_}
 use native.Mathlib.Nat.{zero-mul}
 use native.Mathlib.Omega.{arith}
-use lib.Dec.{eqb}
+use lib.Dec.{eqb, eqb→eq}
 use lib.IntN.{ℤ}
 use lib.ListN.{length, replicate, drop, length-replicate}
 use borrow.Author.Tests.{eqb-true, eq-eqb}
@@ -17,9 +17,11 @@ use Rattle.basics.specs.Bits.{value, word, isWord, isZero}
 use Rattle.basics.specs.Lists.{all, table}
 use Rattle.basics.specs.Outcome.{Outcome, refused, accepted, counted, answer, left, Meets}
 use Rattle.basics.proofs.BitLists.{zero-join}
-use Rattle.basics.proofs.Lists.{both-left, both-right, both-true, all-replicate, all-take, all-drop, all-get, length-table, table-as, is-table, getD-table, getD-zeros}
+use Rattle.basics.proofs.Lists.{both-left, both-right, both-true, all-replicate, all-take, all-drop, length-table, table-as, is-table, getD-zeros}
 use Rattle.basics.proofs.Outcomes.{passed}
 use Rattle.field.specs.Galois.{rows, width, IsField, size}
+use Rattle.field.proofs.Computed.{allBelow}
+use Rattle.field.proofs.Galois.{each-field}
 use Rattle.codewords.specs.Code.{Code, codeAnswer}
 use Rattle.codewords.specs.Codewords.{symbols, message}
 use Rattle.codewords.proofs.Tests.{fails, not-both}
@@ -29,14 +31,10 @@ use Rattle.hours.proofs.Unpacking.{packed-words, unpack-pack, pack-unpack, clea
 use Rattle.demands.specs.Blocks.{Blocks, Packs, Unpacks}
 use Rattle.demands.proofs.Passing.{Decided, decided, accepted-on, on, code-on}
 
--- the width of field m is m, by a test of all seven
-pub width-is : (m : ℕ) → IsField m → width m ≡ m
-unfolding width rows
-width-is m (least, most) =
-    let back : m - 2 + 2 ≡ m = omega arith in
-    eqb-true _ _
-    (subst (λ m. eqb (width m) m ≡ true) (getD-table (λ i. i + 2) 7 (m - 2) 0 (omega arith) ∙ back)
-    (all-get (λ m. eqb (width m) m) (table (λ i. i + 2) 7) 0 (m - 2) refl (omega arith)))
+-- the width of field m is m, by a test of all fields
+width-is : (m : ℕ) → IsField m → width m ≡ m
+unfolding allBelow width rows
+width-is m h = eqb→eq (width m) m (each-field (λ m. eqb (width m) m) tt h)
 
 -- a call that is done leaves what is accepted
 done-accepted : {M : Type 0} (o : Outcome M) {old new : M} → Meets o Done old new → o ≡ accepted new

@@ -5,9 +5,9 @@ use mathlib.Core.Bool.{Bool, true, false, not, cond, _&&_}
 use mathlib.Core.List.{List, [], _∷_, _++_, map}
 use native.Mathlib.Omega.{arith}
 use lib.Dec.{eqb}
-use lib.ListN.{length, take, drop, replicate, length-append, length-drop, length-take, length-map, length-replicate}
+use lib.ListN.{length, take, drop, replicate, length-append, length-drop, length-map, length-replicate}
 use lib.Seq.{take-append-seam, drop-append-seam}
-use borrow.Author.Tests.{eqb-true, eqb-false, leb-true}
+use borrow.Author.Tests.{eqb-true, eqb-false, leb-true, not-true}
 use Rattle.basics.specs.declared.Answer.{Answer}
 use Rattle.basics.specs.declared.Answer.the-variants.{Done, Counted}
 use Rattle.basics.specs.Bits.{word as wordAt}
@@ -15,6 +15,7 @@ use Rattle.basics.specs.Lists.{written, table}
 use Rattle.basics.specs.Outcome.{accepted, counted, answer, counts, Meets}
 use Rattle.basics.proofs.Lists.{both-left, both-right, both-true, length-table, length-filter}
 use Rattle.field.specs.Galois.{galois, width}
+use Rattle.field.proofs.Galois.{is-field}
 use Rattle.elliptic.specs.declared.Curve.{Curve}
 use Rattle.elliptic.specs.declared.Point.{Point}
 use Rattle.elliptic.specs.Curve.{affinePoints}
@@ -27,6 +28,7 @@ use Rattle.codewords.proofs.Accepted.{accepted-done}
 use Rattle.codewords.proofs.Places.{choice-length, message-listed}
 use Rattle.codewords.proofs.Demand2.{demand2}
 use Rattle.codewords.proofs.Demand3.{demand3 as on-codewords}
+use Rattle.point_count.proofs.Bound.{bound}
 use Rattle.curve.specs.Points.{pointsOutcome, room as pointRoom}
 use Rattle.code.specs.Heard.{heardPlaces, heardOutcome, heardAt}
 use Rattle.hours.specs.Means.{meanAt}
@@ -37,10 +39,9 @@ use Rattle.text.specs.Reading.{Sheet}
 use Rattle.sheet.specs.Job.{codeFor, jobOutcome, answerTo, sheetOutcome, room as sheetRoom, Answers as AnswersSheet}
 use Rattle.demands.specs.Call.{Call, Of}
 use Rattle.demands.specs.Order.{Test, first, numbers, codeTests, pointsTests, heardTests, jobTests, sheetTests}
-use Rattle.demands.specs.Demand1.{Answers, Filled, Listed, Worked, PointsAnswers, Works, listedPoints, Demand1}
+use Rattle.demands.specs.Demand1.{Answers, Filled, Listed, Worked, PointsAnswers, Works, Demand1}
 use Rattle.demands.proofs.Passing.{accepted-on, counted-on}
 use Rattle.demands.proofs.Ones.{one-word, is-recovered, the-in, in-codeword, agreed-some, codeword-length, the-function}
-use Rattle.demands.proofs.AllPoints.{all-points}
 use Rattle.demands.proofs.Rows.{joined-length, row-lengths, row-count}
 use Rattle.demands.proofs.Order.{Hold, inOrder, first-hold, order-answer, answers, code-answers, accepts-accepted, accepts-counted}
 
@@ -87,18 +88,19 @@ unfolding pointsOutcome
 points-call m C r xs ys xs′ ys′ =
     answers _ (pointsTests m C xs ys) _ refl (accepts-counted {M = Lent} _ _)
     (λ h k.
-    let sizes = first-hold (pointsTests m C xs ys) h .1 .1 .1 .0 in
+    let (f, (b, (s, (sizes, _)))) = first-hold (pointsTests m C xs ys) h in
+    let most = bound m C (is-field m f) b (not-true _ s) in
     let (count, new) = counted-on k in (
-      listed (map (λ P. P .x) (listedPoints m C)) xs
-          (few (λ P. P .x) xs (eqb-true _ _ (both-left (eqb (length xs) pointRoom) (eqb (length ys) pointRoom) sizes)))
-          (count ∙ ap Counted (sym (length-map (listedPoints m C) (λ P. P .x)))) (ap (λ (p : Lent). p .0) new),
-      listed (map (λ P. P .y) (listedPoints m C)) ys
-          (few (λ P. P .y) ys (eqb-true _ _ (both-right (eqb (length xs) pointRoom) (eqb (length ys) pointRoom) sizes)))
-          (count ∙ ap Counted (sym (length-map (listedPoints m C) (λ P. P .y)))) (ap (λ (p : Lent). p .1) new),
+      listed (map (λ P. P .x) (affinePoints (galois m) C)) xs
+          (few most (λ P. P .x) xs (eqb-true _ _ (both-left (eqb (length xs) pointRoom) (eqb (length ys) pointRoom) sizes)))
+          (count ∙ ap Counted (sym (length-map (affinePoints (galois m) C) (λ P. P .x)))) (ap (λ (p : Lent). p .0) new),
+      listed (map (λ P. P .y) (affinePoints (galois m) C)) ys
+          (few most (λ P. P .y) ys (eqb-true _ _ (both-right (eqb (length xs) pointRoom) (eqb (length ys) pointRoom) sizes)))
+          (count ∙ ap Counted (sym (length-map (affinePoints (galois m) C) (λ P. P .y)))) (ap (λ (p : Lent). p .1) new),
     ))
   where
-    few : (f : Point → ℕ) (l : List ℕ) → length l ≡ pointRoom → length (map f (listedPoints m C)) ≤ length l
-    few f l e = omega (arith, e, length-map (listedPoints m C) f, length-take pointRoom (affinePoints (galois m) C))
+    few : length (affinePoints (galois m) C) ≤ pointRoom → (f : Point → ℕ) (l : List ℕ) → length l ≡ pointRoom → length (map f (affinePoints (galois m) C)) ≤ length l
+    few h f l e = omega (arith, e, length-map (affinePoints (galois m) C) f)
 
 heard-call : (code : Code) (mask : List ℕ) (r : Answer) (old new : List ℕ) → Meets (heardOutcome code mask old) r old new
     → Answers (1 ∷ 2 ∷ 3 ∷ 4 ∷ 5 ∷ 6 ∷ 7 ∷ 8 ∷ 8 ∷ 9 ∷ []) (heardTests code mask old) r old new (Listed (heardPlaces mask (n code)) r old new)
@@ -191,7 +193,7 @@ pub demand1 : Demand1
 demand1 =
     record {
       points = points-call;
-      points-all = all-points;
+      points-fit = bound;
       means = λ ts rs h r old new. answers _ _ _ refl (accepts-accepted _) (λ p. filled (length-table (meanAt ts rs h) (length old)));
       plain = λ code f r old new.
           code-answers code _ _ _ refl (accepts-accepted _) (λ done (a, (b, c)). filled (demand2 code done .word-length f ∙ sym (eqb-true _ _ b)));

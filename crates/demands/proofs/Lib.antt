@@ -4,7 +4,6 @@ mod Ones
 mod Rows
 mod Order
 pub mod Blocks
-pub mod AllPoints
 pub mod Demand1
 pub mod Demand2
 pub mod Demand3

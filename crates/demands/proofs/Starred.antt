@@ -6,7 +6,7 @@ use mathlib.Core.List.{List, [], _∷_, map}
 use native.Mathlib.Omega.{arith}
 use lib.Dec.{eqb}
 use lib.IntN.{pos}
-use lib.ListN.{length, take, length-map}
+use lib.ListN.{length, length-map}
 use borrow.Author.Tests.{eq-eqb}
 use Rattle.basics.specs.declared.Answer.the-variants.{Done}
 use Rattle.basics.specs.declared.Refusal.the-variants.{Singular}
@@ -80,12 +80,12 @@ module _ (code : Code) (done : codeAnswer code ≡ Done) (J : List ℕ) (j : cho
 -- ---- Points
 
 gives-points : (C : Curve) (points : List Point) → coefficientsBelow (size 2) C ≡ true → singular (galois 2) C ≡ false → affinePoints (galois 2) C ≡ points
-    → take pointRoom points ≡ points → Lists C (map (λ P. P .x) points) (map (λ P. P .y) points)
+    → Lists C (map (λ P. P .x) points) (map (λ P. P .y) points)
 unfolding pointsOutcome
-gives-points C points b s e t bx by lx ly =
+gives-points C points b s e bx by lx ly =
     check-true _ _ refl ∙ check-true _ _ b ∙ check-true _ _ (ap not s)
     ∙ check-true _ _ (both-true (eqb (length bx) pointRoom) (eqb (length by) pointRoom) (eq-eqb _ _ lx) (eq-eqb _ _ ly))
-    ∙ ap (λ p. listing p bx by) (ap (take pointRoom) e ∙ t)
+    ∙ ap (λ p. listing p bx by) e
     ∙ ap (λ k. counted k (written (map (λ P. P .x) points) bx, written (map (λ P. P .y) points) by)) (sym (length-map points (λ P. P .x)))
 
 -- which of the curves are singular
@@ -135,9 +135,9 @@ starred =
       definitions = cases;
       hours = hour-cases;
       sheet = sheet-cases;
-      points-A = gives-points (A 1 .curve) _ refl smooth-A (cases .points-A) refl;
-      points-B = gives-points (B 1 .curve) _ refl smooth-B (cases .points-B) refl;
-      no-points = gives-points (curve 0 0 1 0 2) [] refl smooth-none (cases .no-points) refl;
+      points-A = gives-points (A 1 .curve) _ refl smooth-A (cases .points-A);
+      points-B = gives-points (B 1 .curve) _ refl smooth-B (cases .points-B);
+      no-points = gives-points (curve 0 0 1 0 2) [] refl smooth-none (cases .no-points);
       all-zero-3 = zero-3;
       unit-0 = gives-function (A 5) a5 _ refl _ refl (cases .unit-0);
       unit-1 = gives-function (A 5) a5 _ refl _ refl (cases .unit-1);

@@ -3,6 +3,7 @@
 use Prim.Native.Nat.{ℕ, _≤_}
 use mathlib.Core.Path.{_≡_}
 use mathlib.Core.Logic.{_↔_}
+use mathlib.Core.Bool.{true, false}
 use mathlib.Core.List.{List, [], _∷_, _++_, map}
 use lib.IntN.{ℤ}
 use lib.ListN.{length, take, drop, replicate}
@@ -11,10 +12,9 @@ use Rattle.basics.specs.declared.Answer.{Answer}
 use Rattle.basics.specs.declared.Answer.the-variants.{Done, Counted, Refused}
 use Rattle.basics.specs.Lists.{table}
 use Rattle.basics.specs.Outcome.{answer, Meets}
-use Rattle.field.specs.Galois.{galois, width}
+use Rattle.field.specs.Galois.{IsField, galois, size, width}
 use Rattle.elliptic.specs.declared.Curve.{Curve}
-use Rattle.elliptic.specs.declared.Point.{Point}
-use Rattle.elliptic.specs.Curve.{affinePoints}
+use Rattle.elliptic.specs.Curve.{coefficientsBelow, singular, affinePoints}
 use Rattle.codewords.specs.Code.{Code, n}
 use Rattle.codewords.specs.Codewords.{word, recovered, systematicFunction, systematicWord, matrix, relation, pick}
 use Rattle.curve.specs.Points.{pointsOutcome, room as pointRoom}
@@ -68,20 +68,18 @@ Works ns ts l c = Answers {M = Lent} ns ts (c .answer) (c .out, c .work) (c .out
 abbrev codeNumbers : List ℕ
 codeNumbers = 1 ∷ 2 ∷ 3 ∷ 4 ∷ 5 ∷ 6 ∷ 7 ∷ []
 
--- Points: its two buffers
-abbrev pub listedPoints : ℕ → Curve → List Point
-listedPoints m C = take pointRoom (affinePoints (galois m) C)
-
+-- Points: all affine points, their X and their Y in its two buffers
 abbrev pub PointsAnswers : ℕ → Curve → Answer → List ℕ → List ℕ → List ℕ → List ℕ → Type 0
 PointsAnswers m C r xs ys xs′ ys′ =
     Answers {M = Lent} (1 ∷ 2 ∷ 3 ∷ 8 ∷ []) (pointsTests m C xs ys) r (xs, ys) (xs′, ys′)
-    (Listed (map (λ P. P .x) (listedPoints m C)) r xs xs′ × Listed (map (λ P. P .y) (listedPoints m C)) r ys ys′)
+    (Listed (map (λ P. P .x) (affinePoints (galois m) C)) r xs xs′ × Listed (map (λ P. P .y) (affinePoints (galois m) C)) r ys ys′)
 
 pub record Demand1 : Type 0 where
   pub points : (m : ℕ) (C : Curve) (r : Answer) (xs ys xs′ ys′ : List ℕ) → Meets (pointsOutcome m C xs ys) r (xs, ys) (xs′, ys′)
       → PointsAnswers m C r xs ys xs′ ys′
-  -- "all affine points": for m up to 7 none is cut off. For m = 8 that is Hasse's bound, which is not proved
-  pub points-all : (m : ℕ) (C : Curve) → 2 ≤ m → m ≤ 7 → listedPoints m C ≡ affinePoints (galois m) C
+  -- "all affine points": there is room for them, whatever the curve
+  pub points-fit : (m : ℕ) (C : Curve) → IsField m → coefficientsBelow (size m) C ≡ true → singular (galois m) C ≡ false
+      → length (affinePoints (galois m) C) ≤ pointRoom
   pub means : (stamps : List ℕ) (readings : List ℤ) (hour : ℕ) (r : Answer) (old new : List ℤ) → Meets (meansOutcome stamps readings hour (length old)) r old new
       → Fills (8 ∷ 19 ∷ 18 ∷ 19 ∷ 16 ∷ []) (meansTests stamps readings hour (length old)) (table (meanAt stamps readings hour) (length old)) r old new
   pub plain : (code : Code) (f : List ℕ) (r : Answer) (old new : List ℕ) → Meets (plainOutcome code f (length old)) r old new

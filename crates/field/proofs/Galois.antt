@@ -7,7 +7,7 @@ use native.Mathlib.Nat.{zero-add}
 use native.Mathlib.Omega.{arith}
 use lib.Dec.{T, eqb, leb, ltb, eqb→eq, leb→le, ltb→lt}
 use borrow.Author.Tests.{ne-eqb, leb-true}
-use lib.ListN.{getD}
+use lib.ListN.{length, getD}
 use lib.Pow.{pow-mono}
 use Rattle.basics.proofs.Lists.{both}
 use Rattle.field.specs.Field.{Field, pow}
@@ -24,9 +24,10 @@ is-field m e = let t = both (leb 2 m) (leb m 8) e in (leb-true 2 m (t .0), leb-t
 
 -- ---- the tests
 
--- a test that passes at all rows passes at each
-passed : (f : ℕ → Bool) → T (allBelow (λ k. f (k + 2)) 7) → {m : ℕ} → IsField m → T (f m)
-passed f t {m} h = subst (λ x. T (f x)) (omega arith) (below (λ k. f (k + 2)) 7 t (m - 2) (omega arith))
+-- a test that passes at all field numbers, one for each row but the first two, passes at each
+pub each-field : (test : ℕ → Bool) → T (allBelow (λ k. test (k + 2)) (length rows - 2)) → {m : ℕ} → IsField m → T (test m)
+unfolding rows
+each-field test t {m} h = subst (λ x. T (test x)) (omega arith) (below (λ k. test (k + 2)) (length rows - 2) t (m - 2) (omega arith))
 
 -- the width is 2 to 8, and the modulus has that degree. A sum of two logarithms is below 255, or the period is 255
 rowTest : ℕ → Bool
@@ -36,7 +37,7 @@ rowTest m =
 
 row-passes : {m : ℕ} → IsField m → T (rowTest m)
 unfolding rowTest allBelow modulus width size rows
-row-passes = passed rowTest tt
+row-passes = each-field rowTest tt
 
 -- the generator comes back to 1 after as many steps as there are elements but 0
 periodTest : ℕ → Bool
@@ -44,7 +45,7 @@ periodTest m = eqb (getD (powers m (size m)) (size m - 1) 0) 1
 
 period-passes : {m : ℕ} → IsField m → T (periodTest m)
 unfolding allBelow periodTest size powers
-period-passes = passed periodTest tt
+period-passes = each-field periodTest tt
 
 -- a byte whose remainder is 0 has no logarithm, and any other's is an exponent at which the generator is that remainder
 logAt : ℕ → ℕ → ℕ → ℕ → Bool
@@ -57,7 +58,7 @@ logTest m =
 
 log-passes : {m : ℕ} → IsField m → T (logTest m)
 unfolding allBelow logTest logAt logarithm
-log-passes = passed logTest tt
+log-passes = each-field logTest tt
 
 -- ---- the fields
 

@@ -6,6 +6,6 @@ mod Ring
 mod Remainders
 pub mod Field
 mod Generator
-mod Computed
+pub mod Computed
 pub mod Galois
 pub mod Lookup

@@ -2,20 +2,20 @@
 use Prim.{Unit, tt}
 use Prim.Native.Nat.{ℕ, suc, _+_, _≤_, _<_}
 use mathlib.Core.Bool.{Bool, true, false}
-use mathlib.Core.Path.{_≡_, refl, sym, _∙_, ap}
+use mathlib.Core.Path.{_≡_, refl, sym, _∙_, ap, subst}
 use mathlib.Core.List.{List, [], _∷_, _++_, map}
 use native.Mathlib.Omega.{arith}
 use native.Mathlib.Numerals.{add-one}
 use borrow.Author.Tests.{eq-eqb, le-leb, lt-leb, lt-ltb, ltb-true, leb-true}
 use lib.Dec.{leb, ltb}
-use lib.ListN.{length, getD, take, drop, set, length-take}
+use lib.ListN.{length, getD, take, drop, set}
 use lib.Seq.{take-suc, take-suc-set, take-all, take-at}
 use Rattle.basics.specs.declared.Refusal.{Refusal}
 use Rattle.basics.specs.declared.Refusal.the-variants.{Length, Place, RepeatedPlace, Symbol, Dependent}
 use Rattle.basics.specs.declared.Answer.{Answer}
 use Rattle.basics.specs.declared.Answer.the-variants.{Done, Counted, Refused}
 use Rattle.basics.specs.Lists.{all, written}
-use Rattle.basics.specs.Outcome.{Outcome, accepted, counted, check, answer, left, Meets}
+use Rattle.basics.specs.Outcome.{Outcome, accepted, counted, check, answer, left, counts, Meets}
 use Rattle.basics.proofs.Lists.{all-weaker, both}
 use Rattle.basics.proofs.Outcomes.{check-true}
 use Rattle.field.specs.Galois.{IsField, isField, size, galois}
@@ -24,6 +24,7 @@ use Rattle.elliptic.specs.declared.Curve.{Curve}
 use Rattle.elliptic.specs.declared.Point.{Point}
 use Rattle.elliptic.specs.Curve.{coefficientsOf, coefficientsBelow, affinePoints}
 use Rattle.curve.specs.Points.{pointsOutcome, room as most}
+use Rattle.curve.proofs.Count.{points-counts}
 use Rattle.code.specs.Lists.{isBelow}
 use Rattle.codewords.specs.declared.Parameters.{Parameters}
 use Rattle.codewords.specs.Code.{Code, codeAnswer, checkCode, coefficientsBelow as codeBelow, smooth}
@@ -136,28 +137,28 @@ unfolding answer left
 counted-as n q t = (let z = sym q ∙ t .answers in cc, t .leaves)
 
 abbrev pub listedX : Parameters → List ℕ
-listedX p = map (λ P. P .x) (take most (affinePoints (galois (p .field)) (p .curve)))
+listedX p = map (λ P. P .x) (affinePoints (galois (p .field)) (p .curve))
 
 abbrev pub listedY : Parameters → List ℕ
-listedY p = map (λ P. P .y) (take most (affinePoints (galois (p .field)) (p .curve)))
+listedY p = map (λ P. P .y) (affinePoints (galois (p .field)) (p .curve))
 
 length-mapped : (g : Point → ℕ) (l : List Point) → length (map g l) ≡ length l
 length-mapped g [] = refl
 length-mapped g (P ∷ l) = ap suc (length-mapped g l)
 
 module _ (p : Parameters) {xs ys xs′ ys′ : List ℕ} {r : Answer} (met : Meets (pointsOutcome (p .field) (p .curve) xs ys) r (xs, ys) (xs′, ys′)) (n : ℕ) (q : r ≡ Counted n) where
-  is-counted : (n ≡ length (take most (affinePoints (galois (p .field)) (p .curve)))) × _≡_ {A = List ℕ × List ℕ} (xs′, ys′) (written (listedX p) xs, written (listedY p) ys)
+  is-counted : (n ≡ length (affinePoints (galois (p .field)) (p .curve))) × _≡_ {A = List ℕ × List ℕ} (xs′, ys′) (written (listedX p) xs, written (listedY p) ys)
   unfolding pointsOutcome
   is-counted = counted-as n q (peel _ _ _ n q (peel _ _ _ n q (peel _ _ _ n q (peel _ _ _ n q met))))
 
   pub few-points : n ≤ 288
-  few-points = omega (arith, is-counted .0, length-take most (affinePoints (galois (p .field)) (p .curve)))
+  few-points = subst (λ a. counts a ≤ most) (sym (met .answers) ∙ q) (points-counts (p .field) (p .curve) xs ys)
 
   pub points-x : take n xs′ ≡ listedX p
-  points-x = rw (ap (λ x. x .0) (is-counted .1)) (take-at (listedX p) _ n (length-mapped (λ P. P .x) (take most (affinePoints (galois (p .field)) (p .curve))) ∙ sym (is-counted .0)))
+  points-x = rw (ap (λ x. x .0) (is-counted .1)) (take-at (listedX p) _ n (length-mapped (λ P. P .x) (affinePoints (galois (p .field)) (p .curve)) ∙ sym (is-counted .0)))
 
   pub points-y : take n ys′ ≡ listedY p
-  points-y = rw (ap (λ x. x .1) (is-counted .1)) (take-at (listedY p) _ n (length-mapped (λ P. P .y) (take most (affinePoints (galois (p .field)) (p .curve))) ∙ sym (is-counted .0)))
+  points-y = rw (ap (λ x. x .1) (is-counted .1)) (take-at (listedY p) _ n (length-mapped (λ P. P .y) (affinePoints (galois (p .field)) (p .curve)) ∙ sym (is-counted .0)))
 
 -- ---- numbers that are too large for a byte
 

@@ -2,7 +2,7 @@
 use Prim.Native.Nat.{ℕ, _≤_}
 use mathlib.Core.List.{List, [], _∷_, _++_, map}
 use lib.Dec.{leb}
-use lib.ListN.{length, take}
+use lib.ListN.{length}
 use Rattle.basics.specs.declared.Refusal.the-variants.{Length, Dependent, SheetShape}
 use Rattle.basics.specs.declared.Answer.{Answer}
 use Rattle.basics.specs.Lists.{written}
@@ -11,7 +11,6 @@ use Rattle.field.specs.Galois.{galois}
 use Rattle.elliptic.specs.declared.Curve.{Curve}
 use Rattle.elliptic.specs.declared.Point.{Point}
 use Rattle.elliptic.specs.Curve.{affinePoints}
-use Rattle.curve.specs.Points.{room as most}
 use Rattle.codewords.specs.Code.{Code, checkCode}
 use Rattle.codewords.specs.Codewords.{systematicFunction, systematicWord, usable}
 use Rattle.solving.specs.Tests.{checkLength, checkPlaces, checkSymbols}
@@ -22,9 +21,9 @@ use Rattle.text.specs.Reading.{Read, bad, got, Sheet, sheet}
 abbrev pub curveOf : Head → Curve
 curveOf h = record { g1 = h .g1; g2 = h .g2; g3 = h .g3; g4 = h .g4; g6 = h .g6 }
 
--- the points are those of Points
+-- the points are those of Points: all affine points of the curve
 abbrev pub pointsOf : Head → List Point
-pointsOf h = take most (affinePoints (galois (h .field)) (curveOf h))
+pointsOf h = affinePoints (galois (h .field)) (curveOf h)
 
 -- the code of a sheet. Its numbers are as they stand there, whatever a type of the coder can hold: one that is too large fails the test that it belongs to
 unfoldable pub codeFor : Head → Code

@@ -12,7 +12,6 @@ use Rattle.basics.specs.Lists.{all}
 use Rattle.basics.specs.Outcome.{Outcome, refused, accepted, check}
 use Rattle.field.specs.Galois.{galois}
 use Rattle.elliptic.specs.Curve.{affinePoints, coefficientsOf}
-use Rattle.curve.specs.Points.{room as most}
 use Rattle.codewords.specs.declared.Parameters.{Parameters}
 use Rattle.codewords.specs.Code.{Code, codeOf, codeAnswer}
 use Rattle.codewords.specs.Codewords.{allPlaces, placesDiffer, symbols, systematicFunction, systematicWord, usable}
@@ -46,7 +45,7 @@ afterCode code J msg = checkLength J (code .k) (checkLength msg (code .k) (check
 -- the code of all points of a curve
 abbrev pub overPoints : Parameters → Code
 overPoints p =
-    let points = take most (affinePoints (galois (p .field)) (p .curve)) in
+    let points = affinePoints (galois (p .field)) (p .curve) in
     codeOf p (map (λ P. P .x) points) (map (λ P. P .y) points)
 
 -- every test but the last was passed

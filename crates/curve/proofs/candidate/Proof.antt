@@ -1,6 +1,6 @@
 -- The calls solve the two conditions one after the other.
 use borrow.Author.Needs.{needs}
-use Rattle.curve.specs.Singular.{candidate}
+use Rattle.point_count.specs.Singular.{candidate}
 use Rattle.curve.proofs.candidate.Statement.{statement}
 use Rattle.curve.proofs.candidate.Tie as tie
 

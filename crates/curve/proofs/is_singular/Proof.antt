@@ -2,7 +2,7 @@
 use borrow.Author.Needs.{needs}
 use mathlib.Core.Path.{sym}
 use Rattle.field.proofs.Galois.{galois-field}
-use Rattle.curve.proofs.Singular.{singular-flat, singular-candidate}
+use Rattle.point_count.proofs.Singular.{singular-flat, singular-candidate}
 use Rattle.curve.proofs.is_singular.Statement.{statement}
 use Rattle.curve.proofs.is_singular.Tie as tie
 

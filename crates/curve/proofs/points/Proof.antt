@@ -1,6 +1,6 @@
--- Test after test, and then the callee lists the points.
+-- Test after test, and then the callee lists the points, for which there is room.
 use borrow.Author.Needs.{needs}
-use Prim.Native.Nat.{ℕ}
+use Prim.Native.Nat.{ℕ, _≤_}
 use mathlib.Core.Path.{_≡_, sym, ap, _∙_}
 use mathlib.Core.Bool.{true, not}
 use mathlib.Core.List.{List}
@@ -14,8 +14,8 @@ use Rattle.basics.proofs.Lists.{both}
 use Rattle.basics.proofs.Outcomes.{pass, refuse}
 use Rattle.field.specs.Galois.{IsField, isField, size, galois}
 use Rattle.field.specs.Tables.{Tables}
-use Rattle.elliptic.specs.Curve.{singular}
-use Rattle.elliptic.specs.Curve.{coefficientsBelow}
+use Rattle.elliptic.specs.Curve.{coefficientsBelow, singular, affinePoints}
+use Rattle.point_count.proofs.Bound.{bound}
 use Rattle.curve.specs.Points.{room, pointsOutcome}
 use Rattle.curve.proofs.Listing.{listed-meets}
 use Rattle.curve.proofs.points.Statement.{statement}
@@ -63,6 +63,12 @@ logarithms-requires c κs = is-field (c .before .before .before)
 is-singular-requires : tie.Need-is-singular-requires
 is-singular-requires c κs = let t = c .before .before in (tables t, below-ok (t .before .before))
 
+-- so there is room for all points
+room-ok : (c : tie.Else3) → length (affinePoints (galois (c .before .before .before .before .before .before .before .before .before .before .before .before .args .m)) (c .before .before .before .before .before .before .before .before .before .before .before .before .args .c)) ≤ room
+room-ok c =
+    let b = c .before .before .before .before .before .before in
+    bound _ _ (is-field (b .before .before)) (below-ok b) (sym (c .before .is-singular .ensures) ∙ c .if3 .left)
+
 -- the first two tests were passed
 accepts : (c : tie.After-is-singular) {o : Outcome (List ℕ × List ℕ)} {r : Answer} {old new : List ℕ × List ℕ} → Meets o r old new → Meets (check (isField (c .before .before .before .before .before .before .before .before .before .before .before .args .m)) FieldNumber (check (coefficientsBelow (size (c .before .before .before .before .before .before .before .before .before .before .before .args .m)) (c .before .before .before .before .before .before .before .before .before .before .before .args .c)) CurveCoefficient o)) r old new
 accepts c m = let e = c .before .before .before .before .before in pass _ (field-ok (e .before .before)) (pass _ (below-ok e) m)
@@ -99,7 +105,7 @@ returns-6 c =
     accepts (e .before .before .before)
     (pass _ (smooth-ok (e .before .before))
     (pass _ (rw (eq-eqb (length (s .xs .now)) room (e .before .if4 .left), eq-eqb (length (s .ys .now)) room (e .if5 .left)))
-    (listed-meets (f .fill-points .ensures))))
+    (listed-meets (room-ok (e .before .before)) (f .fill-points .ensures))))
 
 pub points-spec : {M : Type 1} → statement M
 points-spec =

@@ -14,8 +14,8 @@ use Rattle.field.proofs.Sum.{⊕-assoc, ⊕-eq, ⊕-self, ⊕-zero, zero-⊕}
 use Rattle.elliptic.specs.declared.Curve.{Curve}
 use Rattle.elliptic.specs.Curve.{point, left, right, onCurve, singularAt, singular}
 use Rattle.elliptic.specs.Curve.{coefficientsOf, coefficientsBelow}
-use Rattle.curve.specs.Singular.{candidateX, candidate}
-use Rattle.curve.proofs.Columns.{columns-some, columns-none}
+use Rattle.point_count.specs.Singular.{candidateX, candidate}
+use Rattle.point_count.proofs.Columns.{columns-some, columns-none}
 
 -- a test that cannot be true
 unless : (b : Bool) → (b ≡ true → ⊥) → b ≡ false
@@ -28,19 +28,19 @@ module _ {F : Arithmetic} (K : Field F) (C : Curve) (below : coefficientsBelow (
   open Curve C using (g1, g2, g3, g4, g6)
   open Field K using (add-lt, mul-lt, mul-inv)
 
-  coefficient : (i : ℕ) → i < 5 → getD (coefficientsOf C) i 0 < q
+  pub coefficient : (i : ℕ) → i < 5 → getD (coefficientsOf C) i 0 < q
   coefficient i h = ltb-true (getD (coefficientsOf C) i 0) q (all-get (λ g. ltb g q) (coefficientsOf C) 0 i below h)
 
-  g1-lt : g1 < q
+  pub g1-lt : g1 < q
   g1-lt = coefficient 0 (omega arith)
 
-  g3-lt : g3 < q
+  pub g3-lt : g3 < q
   g3-lt = coefficient 2 (omega arith)
 
   g4-lt : g4 < q
   g4-lt = coefficient 3 (omega arith)
 
-  right-lt : (x : ℕ) → right F C x < q
+  pub right-lt : (x : ℕ) → right F C x < q
   right-lt x = add-lt _ g6 (add-lt _ _ (add-lt _ _ (mul-lt x (x · x)) (mul-lt g2 (x · x))) (mul-lt g4 x)) (coefficient 4 (omega arith))
 
   -- ---- one point is enough; that there is none is shown of every (X, Y)
@@ -63,7 +63,7 @@ module _ {F : Arithmetic} (K : Field F) (C : Curve) (below : coefficientsBelow (
   -- ---- g1 = 0: g3 = 0 is one of the conditions, and with it the square roots give a point that meets the others
 
   module _ (z : g1 ≡ 0) where
-    trace-flat : (x : ℕ) → g1 · x ⊕ g3 ≡ g3
+    pub trace-flat : (x : ℕ) → g1 · x ⊕ g3 ≡ g3
     trace-flat x = rw z (simp (zero-·, zero-⊕))
 
     roots-on : (x y : ℕ) → g3 ≡ 0 → y · y ≡ right F C x → onCurve F C (point x y) ≡ true
