@@ -40,7 +40,6 @@ pub record Accepted (code : Code) : Type 0 where
   pub coefficients : All (λ g. g < q code) (coefficientsOf (code .curve))
   pub smooth : singular (arithmetic code) (code .curve) ≡ false
   pub lengths : length (code .xs) ≡ length (code .ys)
-  pub n-least : 2 ≤ n code
   pub n-most : n code ≤ 288
   pub different : Points (arithmetic code) (code .curve) (points code)
   pub k-least : 1 ≤ code .k
@@ -133,7 +132,6 @@ module _ (code : Code) where
         coefficients = all-map (λ g h. ltb-true g _ h) (all-true (λ g. ltb g (q code)) (coefficientsOf (code .curve)) (t .coefficients));
         smooth = not-true _ (t .smooth);
         lengths = eqb-true _ _ (both-left (eqb (length (code .xs)) (length (code .ys))) _ (t .count));
-        n-least = leb-true 2 _ (both-left (leb 2 (n code)) _ range);
         n-most = leb-true _ 288 (both-right (leb 2 (n code)) _ range);
         different = record {
           on = all-map point-on (all-true (λ P. inField (arithmetic code) P && onCurve (arithmetic code) (code .curve) P) (points code) (t .on));

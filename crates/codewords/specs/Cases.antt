@@ -5,13 +5,13 @@ use mathlib.Core.Bool.{true}
 use mathlib.Core.List.{List, [], _∷_}
 use Rattle.basics.specs.declared.Answer.the-variants.{Done, Refused}
 use Rattle.basics.specs.declared.Refusal.the-variants.{Singular}
-use Rattle.field.specs.Galois.{galois}
+use Rattle.field.specs.Galois.{IsField, galois}
 use Rattle.elliptic.specs.declared.Curve.{Curve}
 use Rattle.elliptic.specs.Curve.{point, opposite, affinePoints}
 use Rattle.codewords.specs.Code.{Code, codeAnswer}
 use Rattle.codewords.specs.Codewords.{index, unitMessage, agreeing, agreeingFunctions, dependent, relations, pick}
 
-abbrev curve : ℕ → ℕ → ℕ → ℕ → ℕ → Curve
+abbrev pub curve : ℕ → ℕ → ℕ → ℕ → ℕ → Curve
 curve a b c d e = record { g1 = a; g2 = b; g3 = c; g4 = d; g6 = e }
 
 -- curve 0,0,1,0,0 with its eight points
@@ -47,9 +47,9 @@ pub record KnownCases : Type 0 where
   -- "B: seven points, (0,1) first, its own opposite"
   pub points-B : affinePoints (galois 2) (B 1 .curve) ≡ point 0 1 ∷ point 1 0 ∷ point 1 1 ∷ point 2 0 ∷ point 2 2 ∷ point 3 0 ∷ point 3 3 ∷ []
   pub own-opposite : opposite (galois 2) (B 1 .curve) (point 0 1) ≡ point 0 1
-  -- "curve 0,0,1,0,2, m = 2: count 0. Curve all zero: 3", whatever the points and k
+  -- "curve 0,0,1,0,2, m = 2: count 0. Curve all zero: 3", whatever the field, the points and k
   pub no-points : affinePoints (galois 2) (curve 0 0 1 0 2) ≡ []
-  pub all-zero : (xs ys : List ℕ) (k : ℕ) → codeAnswer (record { field = 2; curve = curve 0 0 0 0 0; xs = xs; ys = ys; k = k }) ≡ Refused Singular
+  pub all-zero : (m : ℕ) → IsField m → (xs ys : List ℕ) (k : ℕ) → codeAnswer (record { field = m; curve = curve 0 0 0 0 0; xs = xs; ys = ys; k = k }) ≡ Refused Singular
   -- "A, k = 5, places 1,2,3,5,8: functions for the unit messages in turn"
   pub unit-0 : agreeingFunctions (A 5) five (unitMessage 5 (index 0)) ≡ (1 ∷ 0 ∷ 1 ∷ 2 ∷ 3 ∷ []) ∷ []
   pub unit-1 : agreeingFunctions (A 5) five (unitMessage 5 (index 1)) ≡ (0 ∷ 1 ∷ 1 ∷ 1 ∷ 1 ∷ []) ∷ []

@@ -13,7 +13,8 @@ use Rattle.field.specs.Field.{Arithmetic}
 use Rattle.field.specs.Galois.{isField, galois}
 use Rattle.elliptic.specs.declared.Curve.{Curve}
 use Rattle.elliptic.specs.declared.Point.{Point}
-use Rattle.elliptic.specs.Curve.{coefficientsBelow as allBelow, point, samePoint, inField, onCurve, singular}
+use Rattle.elliptic.specs.Curve as curves
+use Rattle.elliptic.specs.Curve.{point, samePoint, inField, onCurve, singular}
 use Rattle.codewords.specs.declared.Parameters.{Parameters}
 
 -- a code: a field by its number, a curve, a list of points by two coordinate lists, and a dimension
@@ -51,7 +52,7 @@ module _ (code : Code) where
 
   -- the tests, each true where the code passes
   unfoldable pub coefficientsBelow : Bool
-  coefficientsBelow = allBelow q (code .curve)
+  coefficientsBelow = curves.coefficientsBelow q (code .curve)
 
   unfoldable pub smooth : Bool
   smooth = not (singular arithmetic (code .curve))

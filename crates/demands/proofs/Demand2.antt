@@ -1,24 +1,26 @@
 -- Demand 2: past their tests Plain gives the word of a function and Recover is decided by whether there is a function, and by the theorem on codewords there is one.
-use Prim.Native.Nat.{ℕ, zero, suc, _+_, _*_, _-_, _<_}
-use mathlib.Core.Path.{_≡_, refl, sym, _∙_, ap, subst}
-use mathlib.Core.Bool.{true}
+use Prim.Native.Nat.{ℕ, zero, suc, _+_, _*_, _-_, _<_, _≤_, zero-le, suc-le-suc}
+use mathlib.Core.Path.{_≡_, refl, sym, _∙_, ap, ap₂, subst, fun-ext}
+use mathlib.Core.Bool.{Bool, true}
 use mathlib.Core.Logic.{inl, inr, _⊎_, _↔_}
-use mathlib.Core.List.{List, Memᴰ·map as in-map}
+use mathlib.Core.List.{List, [], _∷_, map, Memᴰ·map as in-map}
 use native.Mathlib.Omega.{arith}
-use lib.Dec.{ltb}
-use lib.ListN.{length}
-use borrow.Author.Tests.{eq-eqb, ltb-true}
+use lib.Dec.{eqb, ltb}
+use lib.ListN.{length, getD}
+use borrow.Author.Tests.{eq-eqb, ltb-true, lt-ltb}
 use Rattle.basics.specs.declared.Answer.{Answer}
 use Rattle.basics.specs.declared.Answer.the-variants.{Done}
 use Rattle.basics.specs.declared.Refusal.the-variants.{Length, NoCodeword}
 use Rattle.basics.specs.Outcome.{Meets}
-use Rattle.basics.proofs.Lists.{both-left, both-right}
+use Rattle.basics.specs.Lists.{all}
+use Rattle.basics.proofs.Lists.{both-left, both-right, both-true}
+use Rattle.field.specs.Sum.{_⊕_}
 use Rattle.field.specs.Field.{Arithmetic, Field, pow}
-use Rattle.field.proofs.Field.{mul-one}
+use Rattle.field.proofs.Field.{ring, zero-lt, mul-one}
 use Rattle.elliptic.specs.declared.Point.{Point}
 use Rattle.elliptic.specs.Curve.{inField}
-use Rattle.elliptic.specs.Functions.{weight, monomial}
-use Rattle.codewords.specs.Code.{Code, arithmetic, q, n, codeAnswer}
+use Rattle.elliptic.specs.Functions.{weight, degree, monomial, sumFrom, value}
+use Rattle.codewords.specs.Code.{Code, arithmetic, q, n, points, codeAnswer}
 use Rattle.codewords.specs.Codewords.{symbols, message, word, codewords, codeword, recovered}
 use Rattle.codewords.proofs.Accepted.{accepted-done, laws}
 use Rattle.codewords.proofs.Places.{message-listed}
@@ -78,6 +80,42 @@ unfolding weight
 no-weight-1 zero e = omega (arith, e)
 no-weight-1 (suc i) e = omega (arith, e)
 
+-- ---- functions of more or of fewer than k coefficients
+
+-- the first k coefficients, and zeros where there are none
+unfoldable cut : ℕ → List ℕ → List ℕ
+cut zero f = []
+cut (suc k) [] = 0 ∷ cut k []
+cut (suc k) (c ∷ cs) = c ∷ cut k cs
+
+length-cut : (k : ℕ) (f : List ℕ) → length (cut k f) ≡ k
+unfolding cut
+length-cut zero f = refl
+length-cut (suc k) [] = ap suc (length-cut k [])
+length-cut (suc k) (c ∷ cs) = ap suc (length-cut k cs)
+
+all-cut : (p : ℕ → Bool) → p 0 ≡ true → (k : ℕ) (f : List ℕ) → all p f ≡ true → all p (cut k f) ≡ true
+unfolding cut
+all-cut p z zero f h = refl
+all-cut p z (suc k) [] h = both-true (p 0) (all p (cut k [])) z (all-cut p z k [] refl)
+all-cut p z (suc k) (c ∷ cs) h = both-true (p c) (all p (cut k cs)) (both-left (p c) (all p cs) h) (all-cut p z k cs (both-right (p c) (all p cs) h))
+
+module _ {F : Arithmetic} (K : Field F) where
+  infixl 70 _·_
+  open Arithmetic F using (_·_)
+
+  no-term : (m : ℕ) → 0 · m ⊕ 0 ≡ 0
+  no-term m = simp ring
+
+  -- coefficients past the first k that are all zero do not count
+  cut-sum : (k i : ℕ) (f : List ℕ) (P : Point) → ((j : ℕ) → k ≤ j → getD f j 0 ≡ 0) → sumFrom F i (cut k f) P ≡ sumFrom F i f P
+  unfolding cut sumFrom
+  cut-sum zero i [] P h = refl
+  cut-sum zero i (c ∷ cs) P h =
+      sym (ap₂ (λ c t. c · monomial F i P ⊕ t) (h 0 zero-le) (sym (cut-sum zero (suc i) cs P (λ j l. h (suc j) zero-le))) ∙ no-term (monomial F i P))
+  cut-sum (suc k) i [] P h = ap (λ t. 0 · monomial F i P ⊕ t) (cut-sum k (suc i) [] P (λ j l. refl)) ∙ no-term (monomial F i P)
+  cut-sum (suc k) i (c ∷ cs) P h = ap (λ t. c · monomial F i P ⊕ t) (cut-sum k (suc i) cs P (λ j l. h (suc j) (suc-le-suc l)))
+
 -- ---- Plain and Recover
 
 module _ (code : Code) (done : codeAnswer code ≡ Done) where
@@ -102,6 +140,27 @@ module _ (code : Code) (done : codeAnswer code ≡ Done) where
   is-values w = (
     λ h. (recovered code w, is-recovered code done w h, on-codewords code done .word-recovered w h),
     λ (f, m, e). subst (λ w. codeword code w ≡ true) e (word-codeword f m),
+  )
+
+  -- the k coefficients of a function of weighted degree at most k, and their values
+  cut-message : (f : List ℕ) → symbols code f ≡ true → message code (cut (code .k) f) ≡ true
+  unfolding message symbols
+  cut-message f s =
+      let zero-below = lt-ltb 0 (q code) (zero-lt (laws code (accepted-done code done))) in
+      both-true (symbols code (cut (code .k) f)) (eqb (length (cut (code .k) f)) (code .k))
+      (all-cut (λ u. ltb u (q code)) zero-below (code .k) f s) (eq-eqb _ _ (length-cut (code .k) f))
+
+  cut-values : (f : List ℕ) → degree f ≤ code .k → valuesOf code (cut (code .k) f) ≡ valuesOf code f
+  unfolding value
+  cut-values f d =
+      ap (λ v. map v (points code)) (fun-ext (λ P. cut-sum (laws code (accepted-done code done)) (code .k) 0 f P (on-codewords code done .degree-all f d)))
+
+  codeword-exactly : (w : List ℕ) → (codeword code w ≡ true) ↔ ((f : List ℕ) × (symbols code f ≡ true) × (degree f ≤ code .k) × (w ≡ valuesOf code f))
+  codeword-exactly w = (
+    λ h.
+        let (f, m, e) = is-values w .0 h in
+        (f, message-symbols code f m, omega (arith, on-codewords code done .degree-most f m), sym e),
+    λ (f, s, d, e). is-values w .1 (cut (code .k) f, cut-message f s, cut-values f (omega (arith, d)) ∙ sym e),
   )
 
   plain : (f : List ℕ) (r : Answer) (old new : List ℕ) → Meets (plainOutcome code f (length old)) r old new → message code f ≡ true → length old ≡ n code
@@ -142,6 +201,7 @@ module _ (code : Code) (done : codeAnswer code ≡ Done) where
 pub demand2 : (code : Code) → codeAnswer code ≡ Done → Demand2 code
 demand2 code done =
     record {
+      codeword-exactly = codeword-exactly code done;
       is-values = is-values code done;
       degree-most = on-codewords code done .degree-most;
       degree-all = on-codewords code done .degree-all;

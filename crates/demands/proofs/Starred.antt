@@ -15,27 +15,28 @@ use Rattle.basics.specs.Outcome.{refused, accepted, counted}
 use Rattle.basics.proofs.Lists.{both-true}
 use Rattle.basics.proofs.Outcomes.{check-true, check-false}
 use Rattle.field.specs.Sum.{_⊕_}
-use Rattle.field.specs.Galois.{galois, rows, modulus, width, size, product}
+use Rattle.field.specs.Galois.{IsField, galois, rows, modulus, width, size, product}
 use Rattle.field.specs.Polynomial.{digits, horner, clmul, timesX, reduce, mul}
+use Rattle.field.proofs.Galois.{field-true, galois-field}
 use Rattle.elliptic.specs.declared.Curve.{Curve}
 use Rattle.elliptic.specs.declared.Point.{Point}
 use Rattle.elliptic.specs.Curve.{coefficientsBelow, onCurve, singularAt, singular, affinePoints}
 use Rattle.elliptic.specs.Functions.{leading}
 use Rattle.codewords.specs.Code.{Code, n, codeAnswer}
 use Rattle.codewords.specs.Codewords.{unitMessage, agrees, allPlaces, placesDiffer, places, choice, symbols, message, word, agreeing, count, agreeingFunctions, dependent, usable, zeroOn, relations}
-use Rattle.codewords.specs.Cases.{A, B}
+use Rattle.codewords.specs.Cases.{curve, A, B}
 use Rattle.codewords.proofs.Tests.{in-filter, passes}
 use Rattle.codewords.proofs.Accepted.{check-done}
 use Rattle.codewords.proofs.Choice.{count-functions, dependent-usable}
 use Rattle.codewords.proofs.Demand3.{demand3 as on-codewords}
-use Rattle.codewords.proofs.Cases.{cases}
+use Rattle.codewords.proofs.Cases.{zero-below, zero-singular, cases}
 use Rattle.curve.specs.Points.{pointsOutcome, listing, room as pointRoom}
 use Rattle.hours.proofs.Cases.{cases as hour-cases}
 use Rattle.hours.specs.Packing.{packOutcome}
 use Rattle.blocks.specs.Outcomes.{packBlockOutcome}
 use Rattle.sheet.proofs.Cases.{cases as sheet-cases}
 use Rattle.coder.specs.Outcomes.{systematicFunctionOutcome, systematicWordOutcome, relationOutcome, rebuildOutcome}
-use Rattle.demands.specs.Starred.{Starred, Gives, Lists, curve}
+use Rattle.demands.specs.Starred.{Starred, Gives, Lists}
 use Rattle.demands.proofs.Ones.{in-one, one-word, message-in}
 use Rattle.demands.proofs.Demand3.{demand3}
 
@@ -88,7 +89,7 @@ gives-points C points b s e bx by lx ly =
     ∙ ap (λ p. listing p bx by) e
     ∙ ap (λ k. counted k (written (map (λ P. P .x) points) bx, written (map (λ P. P .y) points) by)) (sym (length-map points (λ P. P .x)))
 
--- which of the curves are singular
+-- the curves are not singular, but for that with all coefficients zero
 smooth-A : singular (galois 2) (A 1 .curve) ≡ false
 unfolding A _⊕_ rows modulus width size product digits horner clmul timesX reduce mul onCurve singularAt singular
 smooth-A = refl
@@ -101,13 +102,10 @@ smooth-none : singular (galois 2) (curve 0 0 1 0 2) ≡ false
 unfolding _⊕_ rows modulus width size product digits horner clmul timesX reduce mul onCurve singularAt singular
 smooth-none = refl
 
-singular-zero : singular (galois 2) (curve 0 0 0 0 0) ≡ true
-unfolding _⊕_ rows modulus width size product digits horner clmul timesX reduce mul onCurve singularAt singular
-singular-zero = refl
-
-zero-3 : (bx by : List ℕ) → pointsOutcome 2 (curve 0 0 0 0 0) bx by ≡ refused Singular
-unfolding pointsOutcome size width rows
-zero-3 bx by = check-true _ _ refl ∙ check-true _ _ refl ∙ check-false _ _ (ap not singular-zero)
+zero-3 : (m : ℕ) → IsField m → (bx by : List ℕ) → pointsOutcome m (curve 0 0 0 0 0) bx by ≡ refused Singular
+unfolding pointsOutcome
+zero-3 m h bx by =
+    check-true _ _ (field-true h) ∙ check-true _ _ (zero-below (galois-field h)) ∙ check-false _ _ (ap not (zero-singular (galois-field h)))
 
 -- ---- Pack
 

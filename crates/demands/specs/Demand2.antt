@@ -48,7 +48,9 @@ module _ (code : Code) where
     pub only : (f : List ℕ) → message code f ≡ true → valuesOf f ≡ w → f ≡ c .out-after
 
   pub record Demand2 : Type 0 where
-    -- "a codeword is the list of values ..": k coefficients below q are what a function of weighted degree at most k has
+    -- "a codeword is the list of values at the listed points of a function of weighted degree at most k": f by its coefficients, however many
+    pub codeword-exactly : (w : List ℕ) → (codeword code w ≡ true) ↔ ((f : List ℕ) × (symbols code f ≡ true) × (degree f ≤ code .k) × (w ≡ valuesOf f))
+    -- "the k coefficients of a function stand in order of weight: 0, 2, 3, 4, up to k": k are enough, have that degree, and leave none past them
     pub is-values : (w : List ℕ) → (codeword code w ≡ true) ↔ ((f : List ℕ) × (message code f ≡ true) × (valuesOf f ≡ w))
     pub degree-most : (f : List ℕ) → message code f ≡ true → degree f ≤ code .k
     pub degree-all : (f : List ℕ) → degree f ≤ code .k → (i : ℕ) → code .k ≤ i → getD f i 0 ≡ 0

@@ -16,8 +16,8 @@ use Rattle.basics.specs.Lists.{all}
 use Rattle.basics.specs.Outcome.{number}
 use Rattle.field.specs.Galois.{isField, size, width, galois}
 use Rattle.elliptic.specs.declared.Curve.{Curve}
+use Rattle.elliptic.specs.Curve as curves
 use Rattle.elliptic.specs.Curve.{singular}
-use Rattle.elliptic.specs.Curve.{coefficientsBelow as inField}
 use Rattle.codewords.specs.Code.{Code, n, coefficientsBelow, smooth, rightCount, allOnCurve, allDifferent, rightDimension}
 use Rattle.codewords.specs.Codewords.{allPlaces, placesDiffer, symbols, codeword, agreed, dependent, usable}
 use Rattle.curve.specs.Points.{room as pointRoom}
@@ -47,7 +47,7 @@ numbers ts = map (λ t. number (t .refusal)) ts
 
 abbrev pub pointsTests : ℕ → Curve → List ℕ → List ℕ → List Test
 pointsTests m C xs ys =
-    test (isField m) FieldNumber ∷ test (inField (size m) C) CurveCoefficient ∷ test (not (singular (galois m) C)) Singular
+    test (isField m) FieldNumber ∷ test (curves.coefficientsBelow (size m) C) CurveCoefficient ∷ test (not (singular (galois m) C)) Singular
     ∷ test (eqb (length xs) pointRoom && eqb (length ys) pointRoom) Length ∷ []
 
 abbrev pub meansTests : List ℕ → List ℤ → ℕ → ℕ → List Test

@@ -9,10 +9,11 @@ use Rattle.basics.specs.declared.Answer.the-variants.{Done, Refused}
 use Rattle.basics.specs.declared.Refusal.the-variants.{Singular, Dependent, NoCodeword}
 use Rattle.basics.specs.Lists.{written}
 use Rattle.basics.specs.Outcome.{Outcome, refused, accepted, counted}
+use Rattle.field.specs.Galois.{IsField}
 use Rattle.elliptic.specs.declared.Curve.{Curve}
 use Rattle.codewords.specs.Code.{Code, codeAnswer}
 use Rattle.codewords.specs.Codewords.{message}
-use Rattle.codewords.specs.Cases.{A, B, KnownCases}
+use Rattle.codewords.specs.Cases.{curve, A, B, KnownCases}
 use Rattle.curve.specs.Points.{pointsOutcome}
 use Rattle.hours.specs.Cases.{Cases}
 use Rattle.blocks.specs.Outcomes.{packBlockOutcome}
@@ -20,9 +21,6 @@ use Rattle.sheet.specs.Cases.{SheetCases}
 use Rattle.solving.specs.Tests.{Lent}
 use Rattle.coder.specs.Outcomes.{systematicFunctionOutcome, systematicWordOutcome, relationOutcome, pickOutcome, rebuildOutcome}
 use Rattle.demands.specs.Call.{Call, Of, Fits}
-
-abbrev pub curve : ℕ → ℕ → ℕ → ℕ → ℕ → Curve
-curve a b c d e = record { g1 = a; g2 = b; g3 = c; g4 = d; g6 = e }
 
 -- every call of the operation whose output has the size and that has room to work is accepted and gives l, or is refused
 abbrev pub Gives : ℕ → (List ℕ → List ℕ → Outcome Lent) → List ℕ → Type 0
@@ -40,7 +38,7 @@ pub record Starred : Type 0 where
   pub points-A : Lists (A 1 .curve) (A 1 .xs) (A 1 .ys)
   pub points-B : Lists (B 1 .curve) (B 1 .xs) (B 1 .ys)
   pub no-points : Lists (curve 0 0 1 0 2) [] []
-  pub all-zero-3 : (bx by : List ℕ) → pointsOutcome 2 (curve 0 0 0 0 0) bx by ≡ refused Singular
+  pub all-zero-3 : (m : ℕ) → IsField m → (bx by : List ℕ) → pointsOutcome m (curve 0 0 0 0 0) bx by ≡ refused Singular
   -- "A, k = 5, places 1,2,3,5,8: functions for the unit messages in turn"
   pub unit-0 : Gives 5 (systematicFunctionOutcome (A 5) (1 ∷ 2 ∷ 3 ∷ 5 ∷ 8 ∷ []) (1 ∷ 0 ∷ 0 ∷ 0 ∷ 0 ∷ [])) (1 ∷ 0 ∷ 1 ∷ 2 ∷ 3 ∷ [])
   pub unit-1 : Gives 5 (systematicFunctionOutcome (A 5) (1 ∷ 2 ∷ 3 ∷ 5 ∷ 8 ∷ []) (0 ∷ 1 ∷ 0 ∷ 0 ∷ 0 ∷ [])) (0 ∷ 1 ∷ 1 ∷ 1 ∷ 1 ∷ [])

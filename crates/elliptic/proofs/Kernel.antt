@@ -90,10 +90,6 @@ module _ {F : Arithmetic} (K : Field F) where
   known ind f g u v a =
       sum-zeros (v .under) f (u .size ∙ sym (v .size)) (ind (addScaled F 1 g f) (under-add K 1 (v .under) (u .under)) (sum-zero f g (v .under) a))
 
-  -- where there is a relation, they are not independent
-  pub relation-dependent : {k : ℕ} {J : List Point} {r : List ℕ} → Relation F k J r → Independent F (suc k) J → ⊥
-  relation-dependent {r = r} rel ind = omega (arith, lead-zeros (rel .lead) (ind r (lead-under K (rel .lead)) (rel .zeros)))
-
   nowhere : (P : Point) → evaluate F [] P ≡ 0
   unfolding evaluate
   nowhere P = refl

@@ -3,12 +3,14 @@ use mathlib.Core.Path.{_≡_, refl, sym, ap, _∙_, subst}
 use mathlib.Core.Bool.{Bool, true, false, _&&_}
 use mathlib.Core.Logic.{⊎-elim}
 use mathlib.Core.List.{List, [], _∷_}
-use Prim.Native.Nat.{ℕ, zero, suc, _+_, _<_}
+use Prim.Native.Nat.{ℕ, zero, suc, _+_, _-_, _<_}
 use native.Mathlib.Nat.{not-suc-le-zero, le-of-suc-le-suc, add-zero, add-suc, suc-add, eq-or-lt-of-le}
 use native.Mathlib.Omega.{arith}
 use lib.Dec.{T}
-use lib.ListN.{getD}
-use Rattle.field.specs.Galois.{IsField}
+use lib.ListN.{length, getD}
+use Rattle.basics.specs.Lists.{same}
+use Rattle.basics.proofs.Lists.{same-true}
+use Rattle.field.specs.Galois.{IsField, rows}
 use Rattle.field.specs.Tables.{iterate, tabulate}
 
 -- the test passes at each number below n
@@ -26,6 +28,11 @@ below f zero t k h = absurd (not-suc-le-zero h)
 below f (suc n) t k h =
     let t′ = apart (f n) (allBelow f n) t in
     ⊎-elim (λ e. subst (λ x. T (f x)) (sym e) (t′ .0)) (λ l. below f n (t′ .1) k l) (eq-or-lt-of-le (le-of-suc-le-suc h))
+
+-- a test that passes at all field numbers, one for each row but the first two, passes at each
+pub each-field : (test : ℕ → Bool) → T (allBelow (λ k. test (k + 2)) (length rows - 2)) → {m : ℕ} → IsField m → T (test m)
+unfolding rows
+each-field test t {m} h = subst (λ x. T (test x)) (omega arith) (below (λ k. test (k + 2)) (length rows - 2) t (m - 2) (omega arith))
 
 -- ---- lists by a rule
 
@@ -45,7 +52,21 @@ tabulate-at f i zero k h = absurd (not-suc-le-zero h)
 tabulate-at f i (suc n) zero h = ap f (sym (add-zero i))
 tabulate-at f i (suc n) (suc k) h = tabulate-at f (suc i) n k (le-of-suc-le-suc h) ∙ ap f (suc-add i k ∙ sym (add-suc i k))
 
--- ---- tables by field number
+-- ---- tables in the code, by field number
+
+-- THE TEST of a table in the code, for all fields at once: each row is, entry by entry, what the rule gives for its field number
+unfoldable pub tableTest : (ℕ → List ℕ) → List (List ℕ) → Bool
+tableTest rule table = allBelow (λ k. same (rule (k + 2)) (getD table (k + 2) [])) (length rows - 2)
+
+-- so a row of a table that passes it is the rule's
+pub tested : (rule : ℕ → List ℕ) (table : List (List ℕ)) → T (tableTest rule table) → {i m : ℕ} → i ≡ m → IsField m → getD table i [] ≡ rule m
+unfolding tableTest
+tested rule table t {m = m} e h =
+    ap (λ n. getD table n []) e ∙ sym (same-true (rule m) (getD table m []) (holds _ (each-field (λ m. same (rule m) (getD table m [])) t h)))
+  where
+    holds : (b : Bool) → T b → b ≡ true
+    holds true t = refl
+    holds false t = absurd t
 
 -- x for the numbers 0 and 1, which are no fields, and f at each field number
 abbrev byNumber : {A : Type 0} → (ℕ → A) → A → List A

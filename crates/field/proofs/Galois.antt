@@ -1,33 +1,31 @@
 -- Every field number's row is a field: the laws by theory, over a modulus, a width and a generator, and what the rows themselves must show,
 -- for all of them, by tests that antt computes.
-use mathlib.Core.Path.{_≡_, refl, sym, ap, _∙_, subst}
+use mathlib.Core.Path.{_≡_, refl, sym, ap, _∙_}
 use mathlib.Core.Bool.{Bool, true, cond, _&&_, _||_}
 use Prim.Native.Nat.{ℕ, _+_, _-_, _/_, _^_, _≤_, _<_}
 use native.Mathlib.Nat.{zero-add}
 use native.Mathlib.Omega.{arith}
 use lib.Dec.{T, eqb, leb, ltb, eqb→eq, leb→le, ltb→lt}
-use borrow.Author.Tests.{ne-eqb, leb-true}
-use lib.ListN.{length, getD}
+use borrow.Author.Tests.{ne-eqb, leb-true, le-leb}
+use lib.ListN.{getD}
 use lib.Pow.{pow-mono}
-use Rattle.basics.proofs.Lists.{both}
+use Rattle.basics.proofs.Lists.{both, both-true}
 use Rattle.field.specs.Field.{Field, pow}
 use Rattle.field.specs.Galois.{isField, IsField, rows, modulus, width, generator, size, product, remainder, inverse, galois}
 use Rattle.field.specs.Tables.{none, position, powers, logarithm}
-use Rattle.field.proofs.Computed.{allBelow, below, apart, iterate-at}
+use Rattle.field.proofs.Computed.{allBelow, below, apart, each-field, iterate-at}
 use Rattle.field.proofs.Ring.{Ring}
 use Rattle.field.proofs.Remainders.{reduce-small, reduce-lt, mul-reduce, ring as reduced}
 use Rattle.field.proofs.Generator.{Generator, generated}
 
--- the test of a field number, as a statement
+-- the test of a field number and the statement
 pub is-field : (m : ℕ) → isField m ≡ true → IsField m
 is-field m e = let t = both (leb 2 m) (leb m 8) e in (leb-true 2 m (t .0), leb-true m 8 (t .1))
 
--- ---- the tests
+pub field-true : {m : ℕ} → IsField m → isField m ≡ true
+field-true {m} (least, most) = both-true (leb 2 m) (leb m 8) (le-leb 2 m least) (le-leb m 8 most)
 
--- a test that passes at all field numbers, one for each row but the first two, passes at each
-pub each-field : (test : ℕ → Bool) → T (allBelow (λ k. test (k + 2)) (length rows - 2)) → {m : ℕ} → IsField m → T (test m)
-unfolding rows
-each-field test t {m} h = subst (λ x. T (test x)) (omega arith) (below (λ k. test (k + 2)) (length rows - 2) t (m - 2) (omega arith))
+-- ---- the tests
 
 -- the width is 2 to 8, and the modulus has that degree. A sum of two logarithms is below 255, or the period is 255
 rowTest : ℕ → Bool

@@ -17,7 +17,8 @@ use Rattle.field.specs.Tables.{powers, position, logarithm}
 use Rattle.field.proofs.Sum.{digit, zero-⊕, ⊕-digit, ⊕-shift, ⊕-swap}
 use Rattle.field.proofs.Field.{inv-unique}
 use Rattle.field.proofs.Computed.{allBelow}
-use Rattle.field.proofs.Galois.{each-field, galois-field, remainder-small, log-none, pow-log}
+use Rattle.field.proofs.Computed.{each-field}
+use Rattle.field.proofs.Galois.{galois-field, remainder-small, log-none, pow-log}
 use Rattle.field.proofs.Lookup.{none-inverse}
 use Rattle.codewords.proofs.Tests.{in-all, all-true}
 use Rattle.point_count.specs.Bound.{most}

@@ -1,9 +1,8 @@
--- antt computes the table of each field number by its rule, and finds the numbers of the source.
-use mathlib.Core.List.{[]}
+-- The table of the source passes the test, which antt computes.
+use mathlib.Core.List.{[], _∷_}
 use borrow.Author.Needs.{needs}
-use lib.ListN.{replicate}
 use Rattle.field.specs.Tables.{powerTable}
-use Rattle.field.proofs.Computed.{by-number}
+use Rattle.field.proofs.Computed.{allBelow, tableTest, tested}
 use Rattle.field.proofs.powers.Statement.{statement}
 use Rattle.field.proofs.powers.Tie as tie
 
@@ -17,8 +16,8 @@ array-copy-out-result : tie.Need-array-copy-out-result
 array-copy-out-result c = search needs
 
 returns : tie.Need-returns
-unfolding powerTable
-returns c = by-number powerTable (replicate 255 0) [] (c .before .wide .ensures) (c .before .before .pre)
+unfolding powerTable tableTest allBelow rows
+returns c = tested powerTable (_ ∷ _ ∷ _ ∷ _ ∷ _ ∷ _ ∷ _ ∷ _ ∷ _ ∷ []) tt (c .before .wide .ensures) (c .before .before .pre)
 
 pub powers-spec : {M : Type 1} → statement M
 powers-spec = tie.close (tie.spec wide-requires mul-result array-copy-out-result returns)
