@@ -20,8 +20,7 @@ use Rattle.basics.proofs.BitLists.{zero-join}
 use Rattle.basics.proofs.Lists.{both-left, both-right, both-true, all-replicate, all-take, all-drop, length-table, table-as, is-table, getD-zeros}
 use Rattle.basics.proofs.Outcomes.{passed}
 use Rattle.field.specs.Galois.{rows, width, IsField, size}
-use Rattle.field.proofs.Computed.{allBelow}
-use Rattle.field.proofs.Computed.{each-field}
+use Rattle.field.proofs.Computed.{allBelow, each-field}
 use Rattle.codewords.specs.Code.{Code, codeAnswer}
 use Rattle.codewords.specs.Codewords.{symbols, message}
 use Rattle.codewords.proofs.Tests.{fails, not-both}

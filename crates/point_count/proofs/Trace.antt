@@ -16,8 +16,7 @@ use Rattle.field.specs.Galois.{IsField, rows, size, width, product, generator, 
 use Rattle.field.specs.Tables.{powers, position, logarithm}
 use Rattle.field.proofs.Sum.{digit, zero-⊕, ⊕-digit, ⊕-shift, ⊕-swap}
 use Rattle.field.proofs.Field.{inv-unique}
-use Rattle.field.proofs.Computed.{allBelow}
-use Rattle.field.proofs.Computed.{each-field}
+use Rattle.field.proofs.Computed.{allBelow, each-field}
 use Rattle.field.proofs.Galois.{galois-field, remainder-small, log-none, pow-log}
 use Rattle.field.proofs.Lookup.{none-inverse}
 use Rattle.codewords.proofs.Tests.{in-all, all-true}

@@ -1,6 +1,7 @@
 -- The table of the source passes the test, which antt computes.
 use mathlib.Core.List.{[], _∷_}
 use borrow.Author.Needs.{needs}
+use Rattle.field.specs.Galois.{rows}
 use Rattle.field.specs.Tables.{powerTable}
 use Rattle.field.proofs.Computed.{allBelow, tableTest, tested}
 use Rattle.field.proofs.powers.Statement.{statement}
