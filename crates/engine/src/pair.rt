@@ -30,6 +30,17 @@ pub struct Lengths {
     pub word: usize,
 }
 
+// Those of L = 1 and U = Y, with which every run begins.
+pub fn first_sizes() -> Sizes
+    ensures { λ r. ⌜ (r .low ≡ 1) × (r .high ≡ 3) × (r .turned ≡ false) ⌝ }
+{
+    Sizes {
+        low: 1,
+        high: 3,
+        turned: false,
+    }
+}
+
 // How many coefficients (X + α) times a function of n coefficients has.
 pub fn grown(n: usize) -> usize
     requires { ⌜ n + 2 < 2 ^ 64 ⌝ }

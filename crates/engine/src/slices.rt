@@ -4,7 +4,7 @@ use field::product;
 use field::product_by_log;
 ghost use mathlib.Core.Path.{_≡_};
 ghost use Prim.Native.Nat.{_<_, _≤_};
-ghost use lib.ListN.{length, replicate};
+ghost use lib.ListN.{length, take, replicate};
 ghost use Rattle.field.specs.Galois.{galois};
 ghost use Rattle.field.specs.Tables.{Tables};
 ghost use Rattle.elliptic.specs.Curve.{point};
@@ -73,6 +73,18 @@ pub fn clear(f: &mut [u8])
     let mut i = 0;
     while i < f.len() {
         f[i] = 0;
+        i += 1;
+    }
+}
+
+// The first n elements of `from`, to the front of out.
+pub fn copy(from: &[u8], n: usize, out: &mut [u8])
+    requires { ⌜ (n ≤ length (now from)) × (n ≤ length (now out)) ⌝ }
+    ensures { λ _. ⌜ take n (now (out .exit)) ≡ take n (now (from .entry)) ⌝ }
+{
+    let mut i = 0;
+    while i < n {
+        out[i] = from[i];
         i += 1;
     }
 }

@@ -1,11 +1,14 @@
 // The pair and the interpolant of the first places of a list.
-use basics::Place;
+use basics::MessageIndex;
 use elliptic::Point;
 use engine::pair::Lengths;
 use engine::pair::Sizes;
 use engine::pair::complete;
+use engine::pair::first_sizes;
 use engine::pair::pair_turn;
 use engine::pair::turn;
+use engine::places::chosen_place;
+use engine::places::message_symbol;
 use engine::places::point_at;
 use engine::slices::value;
 ghost use mathlib.Core.Path.{_≡_};
@@ -49,15 +52,11 @@ pub fn run_pair(
         (after (galois m) (pointsOf (now (xs .entry)) (now (ys .entry)) (now (places .entry))) [] count) ⌝ }
 {
     begin(l, u);
-    let mut n = Sizes {
-        low: 1,
-        high: 3,
-        turned: false,
-    };
+    let mut n = first_sizes();
     let mut i = 0;
     while i < count {
-        let place = places[i];
-        let p = point_at(xs, ys, Place(place));
+        let place = chosen_place(places, MessageIndex(i));
+        let p = point_at(xs, ys, place);
         n = pair_turn(m, powers, logs, p, l, u, n);
         i += 1;
     }
@@ -85,18 +84,16 @@ pub fn run(
 {
     begin(l, u);
     let mut n = Lengths {
-        pair: Sizes {
-            low: 1,
-            high: 3,
-            turned: false,
-        },
+        pair: first_sizes(),
         word: 0,
     };
     let mut i = 0;
     while i < count {
-        let place = places[i];
-        let p = point_at(xs, ys, Place(place));
-        n = turn(m, powers, logs, p, symbols[i], l, u, f, n);
+        let index = MessageIndex(i);
+        let place = chosen_place(places, index);
+        let p = point_at(xs, ys, place);
+        let v = message_symbol(symbols, index);
+        n = turn(m, powers, logs, p, v, l, u, f, n);
         i += 1;
     }
     n

@@ -1,8 +1,11 @@
 // What the operations write: the coefficients of a function, and its values.
-use basics::Place;
+use basics::MessageIndex;
 use engine::pair::Sizes;
 use engine::pair::extend;
+use engine::places::chosen_place;
+use engine::places::message_symbol;
 use engine::places::point_at;
+use engine::slices::copy;
 use engine::slices::value;
 ghost use mathlib.Core.Path.{_≡_};
 ghost use mathlib.Core.Bool.{cond};
@@ -15,18 +18,6 @@ ghost use Rattle.field.specs.Tables.{Tables};
 ghost use Rattle.elliptic.specs.Pair.{evaluate, padded};
 ghost use Rattle.engine.specs.Arrays.{Room};
 ghost use Rattle.engine.specs.Places.{valueAt, pointsOf, Within};
-
-// The first n elements of f, to the front of out.
-fn copy(f: &[u8], n: usize, out: &mut [u8])
-    requires { ⌜ (n ≤ length (now f)) × (n ≤ length (now out)) ⌝ }
-    ensures { λ _. ⌜ take n (now (out .exit)) ≡ take n (now (f .entry)) ⌝ }
-{
-    let mut i = 0;
-    while i < n {
-        out[i] = f[i];
-        i += 1;
-    }
-}
 
 // The function that is the first n coefficients of f, with zeros to the length of out.
 pub fn write_function(f: &[u8], n: usize, out: &mut [u8])
@@ -89,9 +80,10 @@ pub fn agrees(
 {
     let mut i = 0;
     while i < places.len() {
-        let place = places[i];
-        let p = point_at(xs, ys, Place(place));
-        if value(m, powers, logs, p.x, p.y, f) != symbols[i] {
+        let index = MessageIndex(i);
+        let place = chosen_place(places, index);
+        let p = point_at(xs, ys, place);
+        if value(m, powers, logs, p.x, p.y, f) != message_symbol(symbols, index) {
             return false;
         }
         i += 1;

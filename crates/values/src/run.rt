@@ -1,12 +1,15 @@
 // The pair, and the interpolant, of the first places of a list.
 use crate::pair::pair_turn;
 use crate::word::word_turn;
-use basics::Place;
+use basics::MessageIndex;
 use engine::pair::Sizes;
+use engine::pair::first_sizes;
+use engine::places::chosen_place;
+use engine::places::message_symbol;
 use engine::slices::clear;
 ghost use mathlib.Core.Path.{_≡_};
 ghost use mathlib.Core.List.{[]};
-ghost use Prim.Native.Nat.{_-_, _≤_};
+ghost use Prim.Native.Nat.{_≤_};
 ghost use lib.ListN.{length};
 ghost use Rattle.basics.specs.Lists.{table};
 ghost use Rattle.field.specs.Galois.{galois};
@@ -14,14 +17,6 @@ ghost use Rattle.field.specs.Tables.{Tables};
 ghost use Rattle.elliptic.specs.Pair.{after};
 ghost use Rattle.engine.specs.Places.{pointsOf, Runs};
 ghost use Rattle.values.specs.Values.{Shows, ShownIn, Coordinates, RunsFirst, pointsIn, one};
-
-// The index of the coordinates of a place.
-pub fn index_of(place: Place) -> usize
-    requires { ⌜ 1 ≤ place .0 ⌝ }
-    ensures { λ r. ⌜ r ≡ place .0 - 1 ⌝ }
-{
-    place.0 as usize - 1
-}
 
 // The values of L = 1 and U = Y.
 pub fn begin(ys: &[u8], l: &mut [u8], u: &mut [u8])
@@ -54,11 +49,7 @@ pub fn run_pair(
         (after (galois m) (pointsIn (now (xs .entry)) (now (ys .entry))) [] count) ⌝ }
 {
     begin(ys, l, u);
-    let mut n = Sizes {
-        low: 1,
-        high: 3,
-        turned: false,
-    };
+    let mut n = first_sizes();
     let mut i = 0;
     while i < count {
         n = pair_turn(m, powers, logs, i, i + 1, xs, l, u, n);
@@ -91,16 +82,13 @@ pub fn run(
 {
     begin(ys, l, u);
     clear(f);
-    let mut n = Sizes {
-        low: 1,
-        high: 3,
-        turned: false,
-    };
+    let mut n = first_sizes();
     let mut i = 0;
     while i < count {
-        let place = places[i];
-        let j = index_of(Place(place));
-        n = word_turn(m, powers, logs, j, symbols[i], xs, l, u, f, n);
+        let index = MessageIndex(i);
+        let place = chosen_place(places, index);
+        let v = message_symbol(symbols, index);
+        n = word_turn(m, powers, logs, place, v, xs, l, u, f, n);
         i += 1;
     }
     n

@@ -2,24 +2,26 @@
 use crate::pair::longer;
 use crate::sweep::gain_both_raise;
 use crate::sweep::gain_raise;
+use basics::Place;
 use engine::pair::Sizes;
 use engine::pair::grown;
 use engine::pair::ordered;
 use engine::pair::swapped;
+use engine::places::index_of;
 use field::quotient;
 ghost use mathlib.Core.Path.{_≡_};
 ghost use mathlib.Core.Bool.{cond};
-ghost use Prim.Native.Nat.{_<_};
+ghost use Prim.Native.Nat.{_-_, _≤_};
 ghost use lib.ListN.{length};
 ghost use Rattle.field.specs.Tables.{Tables};
 ghost use Rattle.values.specs.Values.{WordSteps, Fits};
 
-// One more place, with index j, where F is to be v: L is in l and U in u.
+// One more place, where F is to be v: L is in l and U in u.
 pub fn word_step(
     m: u8,
     powers: &[u8; 255],
     logs: &[u8; 256],
-    j: usize,
+    place: Place,
     v: u8,
     xs: &[u8],
     l: &mut [u8],
@@ -28,9 +30,10 @@ pub fn word_step(
     n: Sizes,
 ) -> Sizes
     requires { ⌜ Tables m (now powers) (now logs) ⌝ }
-    requires { ⌜ (j < length (now xs)) × Fits (now xs) (now l) (now u) n × (length (now f) ≡ length (now xs)) ⌝ }
-    ensures { λ r. ⌜ WordSteps m (now (xs .entry)) j v (now (l .entry)) (now (u .entry)) (now (f .entry)) (n .low) (n .high) (now (l .exit)) (now (u .exit)) (now (f .exit)) r ⌝ }
+    requires { ⌜ (1 ≤ place .0) × (place .0 ≤ length (now xs)) × Fits (now xs) (now l) (now u) n × (length (now f) ≡ length (now xs)) ⌝ }
+    ensures { λ r. ⌜ WordSteps m (now (xs .entry)) (place .0 - 1) v (now (l .entry)) (now (u .entry)) (now (f .entry)) (n .low) (n .high) (now (l .exit)) (now (u .exit)) (now (f .exit)) r ⌝ }
 {
+    let j = index_of(place);
     let alpha = xs[j];
     let missing = v ^ f[j];
     let at = l[j];
@@ -54,7 +57,7 @@ pub fn word_turn(
     m: u8,
     powers: &[u8; 255],
     logs: &[u8; 256],
-    j: usize,
+    place: Place,
     v: u8,
     xs: &[u8],
     l: &mut [u8],
@@ -63,13 +66,13 @@ pub fn word_turn(
     n: Sizes,
 ) -> Sizes
     requires { ⌜ Tables m (now powers) (now logs) ⌝ }
-    requires { ⌜ (j < length (now xs)) × Fits (now xs) (now l) (now u) n × (length (now f) ≡ length (now xs)) ⌝ }
-    ensures { λ r. ⌜ WordSteps m (now (xs .entry)) j v (cond (n .turned) (now (u .entry)) (now (l .entry))) (cond (n .turned) (now (l .entry)) (now (u .entry))) (now (f .entry)) (n .low) (n .high)
+    requires { ⌜ (1 ≤ place .0) × (place .0 ≤ length (now xs)) × Fits (now xs) (now l) (now u) n × (length (now f) ≡ length (now xs)) ⌝ }
+    ensures { λ r. ⌜ WordSteps m (now (xs .entry)) (place .0 - 1) v (cond (n .turned) (now (u .entry)) (now (l .entry))) (cond (n .turned) (now (l .entry)) (now (u .entry))) (now (f .entry)) (n .low) (n .high)
         (now (l .exit)) (now (u .exit)) (now (f .exit)) r ⌝ }
 {
     let turned = n.turned;
     if turned {
-        return swapped(word_step(m, powers, logs, j, v, xs, u, l, f, n));
+        return swapped(word_step(m, powers, logs, place, v, xs, u, l, f, n));
     }
-    word_step(m, powers, logs, j, v, xs, l, u, f, n)
+    word_step(m, powers, logs, place, v, xs, l, u, f, n)
 }

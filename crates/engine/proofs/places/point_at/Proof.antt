@@ -1,22 +1,19 @@
--- The coordinates stand at the index one below the place.
+-- The coordinates stand at the index of the place.
 use borrow.Author.Needs.{needs}
 use Rattle.engine.proofs.places.point_at.Statement.{statement}
 use Rattle.engine.proofs.places.point_at.Tie as tie
 
-cast-i : tie.Need-cast-i
-cast-i c = search needs
+index-of-requires : tie.Need-index-of-requires
+index-of-requires c κs = search needs
 
-sub-i : tie.Need-sub-i
-sub-i c = search needs
+shared-slice-read-t6 : tie.Need-shared-slice-read-t6
+shared-slice-read-t6 c = search needs
 
-shared-slice-read-t7 : tie.Need-shared-slice-read-t7
-shared-slice-read-t7 c = search needs
-
-shared-slice-read-t9 : tie.Need-shared-slice-read-t9
-shared-slice-read-t9 c = search needs
+shared-slice-read-t8 : tie.Need-shared-slice-read-t8
+shared-slice-read-t8 c = search needs
 
 returns : tie.Need-returns
-returns c = search needs
+returns c = rw (c .before .before .index-of .ensures)
 
 pub point-at-spec : {M : Type 1} → statement M
-point-at-spec = tie.close (tie.spec cast-i sub-i shared-slice-read-t7 shared-slice-read-t9 returns)
+point-at-spec = tie.close (tie.spec index-of-requires shared-slice-read-t6 shared-slice-read-t8 returns)

@@ -24,19 +24,26 @@ abbrev μ-loop : tie.MeasureT-loop
 μ-loop m powers logs xs ys places symbols count l₀ u₀ f₀ n₀ i₀ l u f n i = count - i
 
 begin-requires : tie.Need-begin-requires Inv-loop μ-loop
-begin-requires c κs = c .before .before .before .before .before .before .before .before .before .pre .1 .1
+begin-requires c κs =
+    let entry = c .before .before .before .before .before .before .before .before .before in
+    entry .pre .1 .1
+
+first-sizes-requires : tie.Need-first-sizes-requires Inv-loop μ-loop
+first-sizes-requires c κs = search needs
 
 loop-holds : tie.Need-loop-holds Inv-loop μ-loop
 unfolding after
 loop-holds c =
-    let k = c .before .before .before .before .begin in
-    let pre = c .before .before .before .before .before .before .before .before .before .before .before .before .before .before .pre .1 .1 in (
+    let k = c .before .before .before .before .before .begin in
+    let entry = c .before .before .before .before .before .before .before .before .before .before .before .before .before .before .before in
+    let long = entry .pre .1 .1 in
+    let n = c .first-sizes .ensures in (
       refl,
       refl,
       refl,
       omega arith,
       record {
-        pair = begins refl refl refl (omega (arith, k .kept .0, pre .0)) (omega (arith, k .kept .1 .0, pre .1)) (k .ensures .0) (k .ensures .1);
+        pair = begins (n .0) (n .1) (n .2) (omega (arith, k .kept .0, long .0)) (omega (arith, k .kept .1 .0, long .1)) (k .ensures .0) (k .ensures .1);
         word = record { within = zero-le; first = refl };
       },
     )
@@ -44,63 +51,72 @@ loop-holds c =
 -- the arrays are as long as they were at entry
 long : (c : tie.At-loop Inv-loop μ-loop) → Long (c .loop .l) (c .loop .u) × (292 ≤ length (c .loop .f))
 long c =
-    let k = c .before .before .before .before .before .begin in
-    let pre = c .before .before .before .before .before .before .before .before .before .before .before .before .before .before .before .pre .1 in
+    let k = c .before .before .before .before .before .before .begin in
+    let entry = c .before .before .before .before .before .before .before .before .before .before .before .before .before .before .before .before in
+    let pre = entry .pre .1 in
     ((omega (arith, c .loop .inv .0, k .kept .0, pre .1 .0), omega (arith, c .loop .inv .1, k .kept .1 .0, pre .1 .1)), omega (arith, c .loop .inv .2, pre .3))
 
-mul-place : tie.Need-mul-place Inv-loop μ-loop
-mul-place c = search needs
-
-shared-slice-read-place : tie.Need-shared-slice-read-place Inv-loop μ-loop
-shared-slice-read-place c = omega (arith, c .before .before .before .before .before .before .before .before .before .before .before .before .before .before .before .before .before .pre .1 .0 .within .enough)
+chosen-place-requires : tie.Need-chosen-place-requires Inv-loop μ-loop
+chosen-place-requires c κs =
+    let entry = c .before .before .before .before .before .before .before .before .before .before .before .before .before .before .before .before .before in
+    omega (arith, entry .pre .1 .0 .within .enough)
 
 point-at-requires : tie.Need-point-at-requires Inv-loop μ-loop
-point-at-requires c κs = c .before .before .before .before .before .before .before .before .before .before .before .before .before .before .before .before .before .pre .1 .0 .within .is-place (c .before .before .loop .i) (c .before .loop-test .taken)
+point-at-requires c κs =
+    let entry = c .before .before .before .before .before .before .before .before .before .before .before .before .before .before .before .before .before .before in
+    rw (c .chosen-place .ensures) (entry .pre .1 .0 .within .is-place (c .before .before .loop .i) (c .before .loop-test .taken))
 
-shared-slice-read-turn : tie.Need-shared-slice-read-turn Inv-loop μ-loop
-shared-slice-read-turn c = omega (arith, c .before .before .before .before .before .before .before .before .before .before .before .before .before .before .before .before .before .before .before .pre .1 .2, c .before .before .before .loop-test .taken)
+message-symbol-requires : tie.Need-message-symbol-requires Inv-loop μ-loop
+message-symbol-requires c κs =
+    let entry = c .before .before .before .before .before .before .before .before .before .before .before .before .before .before .before .before .before .before .before in
+    omega (arith, entry .pre .1 .2, c .before .before .loop-test .taken)
 
 turn-requires : tie.Need-turn-requires Inv-loop μ-loop
 turn-requires c κs =
-    let pre = c .before .before .before .before .before .before .before .before .before .before .before .before .before .before .before .before .before .before .before .before .before .before .pre in
+    let entry = c .before .before .before .before .before .before .before .before .before .before .before .before .before .before .before .before .before .before .before .before .before .before .before in
     let at = c .before .before .before .before .before .before .before in
-    let small = pre .1 .0 .small (at .loop .i) (c .before .before .before .before .before .before .loop-test .taken) in
-    (pre .0, (room (at .loop .inv .4 .pair) small (long at .0), word-room (at .loop .inv .4) small (long at .1)))
+    let small = entry .pre .1 .0 .small (at .loop .i) (c .before .before .before .before .before .before .loop-test .taken) in
+    (entry .pre .0, (room (at .loop .inv .4 .pair) small (long at .0), word-room (at .loop .inv .4) small (long at .1)))
 
 add-i : tie.Need-add-i Inv-loop μ-loop
-add-i c = omega (arith, c .before .before .before .before .before .before .before .before .before .before .before .before .before .loop-test .taken, c .before .before .before .before .before .before .before .before .before .before .before .before .before .before .before .before .before .before .before .before .before .before .before .before .before .before .before .before .before .fits .count .fits)
+add-i c =
+    let entry = c .before .before .before .before .before .before .before .before .before .before .before .before .before .before .before .before .before .before .before .before .before .before .before .before .before .before .before .before .before .before in
+    omega (arith, c .before .before .before .before .before .before .before .before .before .before .before .before .before .loop-test .taken, entry .fits .count .fits)
 
 loop-less : tie.Need-loop-less Inv-loop μ-loop
 loop-less c = search needs
 
 loop-again : tie.Need-loop-again Inv-loop μ-loop
 loop-again c =
+    let entry = c .before .before .before .before .before .before .before .before .before .before .before .before .before .before .before .before .before .before .before .before .before .before .before .before .before .before .before .before .before .before in
+    let a = entry .args in
+    let at = c .before .before .before .before .before .before .before .before .before .before .before .before .before .before .loop in
+    let t = c .before .before .before .before .before .before .before .before .before .before .before .before .before .loop-test .taken in
+    let point = rw (c .before .before .before .before .before .before .before .before .before .before .before .before .chosen-place .ensures) at (c .before .before .before .before .before .before .before .before .before .before .before .point-at .ensures) in
     let r = c .before .before .before .before .before .before .turn in
-    let at = c .before .before .before .before .before .before .before .before .before .before .before .before .before .before in
-    let s = c .before .before .before .before .before .before .before .before .before .before .before .before .before .before .before .before .before .before .before .before .before .before .before .before .before .before .before .before .before in
-    let a = s .args in
-    let t = c .before .before .before .before .before .before .before .before .before .before .before .before .before .loop-test .taken in (
-      r .kept .1 .1 .1 .1 .1 .0 ∙ at .loop .inv .0,
-      r .kept .1 .1 .1 .1 .1 .1 .0 ∙ at .loop .inv .1,
-      r .kept .1 .1 .1 .1 .1 .1 .1 .0 ∙ at .loop .inv .2,
+    let filled = rw (c .before .before .before .before .before .before .before .before .before .before .message-symbol .ensures) at (r .ensures) in (
+      r .kept .1 .1 .1 .1 .1 .0 ∙ at .inv .0,
+      r .kept .1 .1 .1 .1 .1 .1 .0 ∙ at .inv .1,
+      r .kept .1 .1 .1 .1 .1 .1 .1 .0 ∙ at .inv .2,
       add-one-le t,
-      run-more (a .xs .now) (a .ys .now) (a .places .now) (at .loop .i) (omega (arith, t, s .pre .1 .0 .within .enough)) (galois (a .m)) (a .symbols .now) (c .before .before .before .before .before .before .before .before .before .before .before .point-at .ensures) (at .loop .inv .4) (r .ensures),
+      run-more (a .xs .now) (a .ys .now) (a .places .now) (at .i) (omega (arith, t, entry .pre .1 .0 .within .enough)) (galois (a .m)) (a .symbols .now) point (at .inv .4) filled,
     )
 
 same-length : tie.Need-same-length Inv-loop μ-loop
-same-length c = c .before .loop .inv .0 ∙ c .before .before .before .before .before .before .begin .kept .0
+same-length c = c .before .loop .inv .0 ∙ c .before .before .before .before .before .before .before .begin .kept .0
 
 same-length-2 : tie.Need-same-length-2 Inv-loop μ-loop
-same-length-2 c = c .before .loop .inv .1 ∙ c .before .before .before .before .before .before .begin .kept .1 .0
+same-length-2 c = c .before .loop .inv .1 ∙ c .before .before .before .before .before .before .before .begin .kept .1 .0
 
 same-length-3 : tie.Need-same-length-3 Inv-loop μ-loop
 same-length-3 c = c .before .loop .inv .2
 
 returns : tie.Need-returns Inv-loop μ-loop
 returns c =
-    let at = c .before in
-    let full : at .loop .i ≡ c .before .before .before .before .before .before .before .before .before .before .before .before .before .before .before .before .args .count = omega arith in
-    rw (← full) (at .loop .inv .4)
+    let entry = c .before .before .before .before .before .before .before .before .before .before .before .before .before .before .before .before .before in
+    let at = c .before .loop in
+    let full : at .i ≡ entry .args .count = omega arith in
+    rw (← full) (at .inv .4)
 
 pub run-spec : {M : Type 1} → statement M
 run-spec =
@@ -109,11 +125,11 @@ run-spec =
     Inv-loop
     μ-loop
     begin-requires
+    first-sizes-requires
     loop-holds
-    mul-place
-    shared-slice-read-place
+    chosen-place-requires
     point-at-requires
-    shared-slice-read-turn
+    message-symbol-requires
     turn-requires
     add-i
     loop-less

@@ -22,67 +22,80 @@ abbrev μ-loop : tie.MeasureT-loop
 μ-loop m powers logs xs ys places count l₀ u₀ n₀ i₀ l u n i = count - i
 
 begin-requires : tie.Need-begin-requires Inv-loop μ-loop
-begin-requires c κs = c .before .before .before .before .before .before .before .pre .1 .1
+begin-requires c κs =
+    let entry = c .before .before .before .before .before .before .before in
+    entry .pre .1 .1
+
+first-sizes-requires : tie.Need-first-sizes-requires Inv-loop μ-loop
+first-sizes-requires c κs = search needs
 
 loop-holds : tie.Need-loop-holds Inv-loop μ-loop
 unfolding after
 loop-holds c =
-    let k = c .before .before .before .before .begin in
-    let pre = c .before .before .before .before .before .before .before .before .before .before .before .before .pre .1 .1 in
-    (refl, refl, omega arith, begins refl refl refl (omega (arith, k .kept .0, pre .0)) (omega (arith, k .kept .1 .0, pre .1)) (k .ensures .0) (k .ensures .1))
+    let k = c .before .before .before .before .before .begin in
+    let entry = c .before .before .before .before .before .before .before .before .before .before .before .before .before in
+    let long = entry .pre .1 .1 in
+    let n = c .first-sizes .ensures in
+    (refl, refl, omega arith, begins (n .0) (n .1) (n .2) (omega (arith, k .kept .0, long .0)) (omega (arith, k .kept .1 .0, long .1)) (k .ensures .0) (k .ensures .1))
 
 -- the arrays are as long as they were at entry
 long : (c : tie.At-loop Inv-loop μ-loop) → Long (c .loop .l) (c .loop .u)
 long c =
-    let k = c .before .before .before .before .before .begin in
-    let pre = c .before .before .before .before .before .before .before .before .before .before .before .before .before .pre .1 .1 in
+    let k = c .before .before .before .before .before .before .begin in
+    let entry = c .before .before .before .before .before .before .before .before .before .before .before .before .before .before in
+    let pre = entry .pre .1 .1 in
     (omega (arith, c .loop .inv .0, k .kept .0, pre .0), omega (arith, c .loop .inv .1, k .kept .1 .0, pre .1))
 
-mul-place : tie.Need-mul-place Inv-loop μ-loop
-mul-place c = search needs
-
-shared-slice-read-place : tie.Need-shared-slice-read-place Inv-loop μ-loop
-shared-slice-read-place c = omega (arith, c .before .before .before .before .before .before .before .before .before .before .before .before .before .before .before .pre .1 .0 .within .enough)
+chosen-place-requires : tie.Need-chosen-place-requires Inv-loop μ-loop
+chosen-place-requires c κs =
+    let entry = c .before .before .before .before .before .before .before .before .before .before .before .before .before .before .before in
+    omega (arith, entry .pre .1 .0 .within .enough)
 
 point-at-requires : tie.Need-point-at-requires Inv-loop μ-loop
-point-at-requires c κs = c .before .before .before .before .before .before .before .before .before .before .before .before .before .before .before .pre .1 .0 .within .is-place (c .before .before .loop .i) (c .before .loop-test .taken)
+point-at-requires c κs =
+    let entry = c .before .before .before .before .before .before .before .before .before .before .before .before .before .before .before .before in
+    rw (c .chosen-place .ensures) (entry .pre .1 .0 .within .is-place (c .before .before .loop .i) (c .before .loop-test .taken))
 
 pair-turn-requires : tie.Need-pair-turn-requires Inv-loop μ-loop
 pair-turn-requires c κs =
-    let pre = c .before .before .before .before .before .before .before .before .before .before .before .before .before .before .before .before .before .before .pre in
+    let entry = c .before .before .before .before .before .before .before .before .before .before .before .before .before .before .before .before .before .before .before in
     let at = c .before .before .before .before .before in
-    (pre .0, room (at .loop .inv .3) (pre .1 .0 .small (at .loop .i) (c .before .before .before .before .loop-test .taken)) (long at))
+    (entry .pre .0, room (at .loop .inv .3) (entry .pre .1 .0 .small (at .loop .i) (c .before .before .before .before .loop-test .taken)) (long at))
 
 add-i : tie.Need-add-i Inv-loop μ-loop
-add-i c = search needs
+add-i c =
+    let entry = c .before .before .before .before .before .before .before .before .before .before .before .before .before .before .before .before .before .before .before .before .before .before .before .before in
+    omega (arith, c .before .before .before .before .before .before .before .before .before .loop-test .taken, entry .fits .count .fits)
 
 loop-less : tie.Need-loop-less Inv-loop μ-loop
 loop-less c = search needs
 
 loop-again : tie.Need-loop-again Inv-loop μ-loop
 loop-again c =
-    let r = c .before .before .before .before .pair-turn in
-    let at = c .before .before .before .before .before .before .before .before .before .before in
-    let s = c .before .before .before .before .before .before .before .before .before .before .before .before .before .before .before .before .before .before .before .before .before .before .before in
-    let a = s .args in
-    let t = c .before .before .before .before .before .before .before .before .before .loop-test .taken in (
-      r .kept .1 .1 .1 .1 .0 ∙ at .loop .inv .0,
-      r .kept .1 .1 .1 .1 .1 .0 ∙ at .loop .inv .1,
+    let entry = c .before .before .before .before .before .before .before .before .before .before .before .before .before .before .before .before .before .before .before .before .before .before .before .before in
+    let a = entry .args in
+    let at = c .before .before .before .before .before .before .before .before .before .before .loop in
+    let t = c .before .before .before .before .before .before .before .before .before .loop-test .taken in
+    let point = rw (c .before .before .before .before .before .before .before .before .chosen-place .ensures) at (c .before .before .before .before .before .before .before .point-at .ensures) in
+    let r = c .before .before .before .before .pair-turn in (
+      r .kept .1 .1 .1 .1 .0 ∙ at .inv .0,
+      r .kept .1 .1 .1 .1 .1 .0 ∙ at .inv .1,
       add-one-le t,
-      run-pair-more (a .xs .now) (a .ys .now) (a .places .now) (at .loop .i) (omega (arith, t, s .pre .1 .0 .within .enough)) (galois (a .m)) [] (c .before .before .before .before .before .before .before .point-at .ensures) (at .loop .inv .3) (r .ensures),
+      run-pair-more (a .xs .now) (a .ys .now) (a .places .now) (at .i) (omega (arith, t, entry .pre .1 .0 .within .enough)) (galois (a .m)) [] point (at .inv .3) (r .ensures),
     )
 
 same-length : tie.Need-same-length Inv-loop μ-loop
-same-length c = c .before .loop .inv .0 ∙ c .before .before .before .before .before .before .begin .kept .0
+same-length c = c .before .loop .inv .0 ∙ c .before .before .before .before .before .before .before .begin .kept .0
 
 same-length-2 : tie.Need-same-length-2 Inv-loop μ-loop
-same-length-2 c = c .before .loop .inv .1 ∙ c .before .before .before .before .before .before .begin .kept .1 .0
+same-length-2 c = c .before .loop .inv .1 ∙ c .before .before .before .before .before .before .before .begin .kept .1 .0
 
 returns : tie.Need-returns Inv-loop μ-loop
 returns c =
-    let at = c .before in
-    let full : at .loop .i ≡ c .before .before .before .before .before .before .before .before .before .before .before .before .before .before .args .count = omega arith in
-    rw (← full) (at .loop .inv .3)
+    let entry = c .before .before .before .before .before .before .before .before .before .before .before .before .before .before .before in
+    let at = c .before .loop in
+    let full : at .i ≡ entry .args .count = omega arith in
+    rw (← full) (at .inv .3)
 
 pub run-pair-spec : {M : Type 1} → statement M
 run-pair-spec =
@@ -91,9 +104,9 @@ run-pair-spec =
     Inv-loop
     μ-loop
     begin-requires
+    first-sizes-requires
     loop-holds
-    mul-place
-    shared-slice-read-place
+    chosen-place-requires
     point-at-requires
     pair-turn-requires
     add-i

@@ -24,30 +24,33 @@ abbrev μ-loop : tie.MeasureT-loop
 loop-holds : tie.Need-loop-holds Inv-loop μ-loop
 loop-holds c = refl
 
-mul-place : tie.Need-mul-place Inv-loop μ-loop
-mul-place c = search needs
-
-shared-slice-read-place : tie.Need-shared-slice-read-place Inv-loop μ-loop
-shared-slice-read-place c = search needs
+chosen-place-requires : tie.Need-chosen-place-requires Inv-loop μ-loop
+chosen-place-requires c κs = search needs
 
 point-at-requires : tie.Need-point-at-requires Inv-loop μ-loop
-point-at-requires c κs = c .before .before .before .before .before .before .before .before .pre .1 .0 .is-place (c .before .before .loop .i) (c .before .loop-test .taken)
+point-at-requires c κs =
+    let entry = c .before .before .before .before .before .before .before .before in
+    rw (c .chosen-place .ensures) (entry .pre .1 .0 .is-place (c .before .before .loop .i) (c .before .loop-test .taken))
 
 value-requires : tie.Need-value-requires Inv-loop μ-loop
 value-requires c κs = search needs
 
-shared-slice-read-if1 : tie.Need-shared-slice-read-if1 Inv-loop μ-loop
-shared-slice-read-if1 c = search needs
+message-symbol-requires : tie.Need-message-symbol-requires Inv-loop μ-loop
+message-symbol-requires c κs =
+    let entry = c .before .before .before .before .before .before .before .before .before .before in
+    omega (arith, entry .pre .1 .1, c .before .before .before .loop-test .taken)
 
 returns : tie.Need-returns Inv-loop μ-loop
 returns c =
-    let at = c .before .before .before .before .before .before in
-    let s = c .before .before .before .before .before .before .before .before .before .before .before .before in
-    let a = s .args in
+    let entry = c .before .before .before .before .before .before .before .before .before .before .before .before in
+    let a = entry .args in
+    let at = c .before .before .before .before .before .before .loop in
     let t = c .before .before .before .before .before .loop-test .taken in
     let F = galois (a .m) in
-    same-fails (map (evaluate F (a .f .now)) (pointsOf (a .xs .now) (a .ys .now) (a .places .now))) (a .symbols .now) (at .loop .i) (at .loop .inv) (rw (values-length (a .xs .now) (a .ys .now) (a .places .now) F (a .f .now)) t) (omega (arith, t, s .pre .1 .1))
-    (λ e. c .if1 .taken (sym (value-at (a .xs .now) (a .ys .now) (a .places .now) (at .loop .i) t F (a .f .now) (c .before .before .before .point-at .ensures) (c .before .before .value .ensures)) ∙ e))
+    let point = rw (c .before .before .before .before .chosen-place .ensures) at (c .before .before .before .point-at .ensures) in
+    let value = value-at (a .xs .now) (a .ys .now) (a .places .now) (at .i) t F (a .f .now) point (c .before .before .value .ensures) in
+    same-fails (map (evaluate F (a .f .now)) (pointsOf (a .xs .now) (a .ys .now) (a .places .now))) (a .symbols .now) (at .i) (at .inv) (rw (values-length (a .xs .now) (a .ys .now) (a .places .now) F (a .f .now)) t) (omega (arith, t, entry .pre .1 .1))
+    (λ e. c .if1 .taken (sym value ∙ e ∙ sym (c .before .message-symbol .ensures)))
 
 add-i : tie.Need-add-i Inv-loop μ-loop
 add-i c = search needs
@@ -57,22 +60,24 @@ loop-less c = search needs
 
 loop-again : tie.Need-loop-again Inv-loop μ-loop
 loop-again c =
-    let at = c .before .before .before .before .before .before in
-    let s = c .before .before .before .before .before .before .before .before .before .before .before .before in
-    let a = s .args in
+    let entry = c .before .before .before .before .before .before .before .before .before .before .before .before in
+    let a = entry .args in
+    let at = c .before .before .before .before .before .before .loop in
     let t = c .before .before .before .before .before .loop-test .taken in
     let F = galois (a .m) in
-    same-passes (map (evaluate F (a .f .now)) (pointsOf (a .xs .now) (a .ys .now) (a .places .now))) (a .symbols .now) (at .loop .i) (at .loop .inv) (rw (values-length (a .xs .now) (a .ys .now) (a .places .now) F (a .f .now)) t) (omega (arith, t, s .pre .1 .1))
-    (value-at (a .xs .now) (a .ys .now) (a .places .now) (at .loop .i) t F (a .f .now) (c .before .before .before .point-at .ensures) (c .before .before .value .ensures) ∙ c .if1 .left)
+    let point = rw (c .before .before .before .before .chosen-place .ensures) at (c .before .before .before .point-at .ensures) in
+    let value = value-at (a .xs .now) (a .ys .now) (a .places .now) (at .i) t F (a .f .now) point (c .before .before .value .ensures) in
+    same-passes (map (evaluate F (a .f .now)) (pointsOf (a .xs .now) (a .ys .now) (a .places .now))) (a .symbols .now) (at .i) (at .inv) (rw (values-length (a .xs .now) (a .ys .now) (a .places .now) F (a .f .now)) t) (omega (arith, t, entry .pre .1 .1))
+    (value ∙ c .if1 .left ∙ c .before .message-symbol .ensures)
 
 returns-2 : tie.Need-returns-2 Inv-loop μ-loop
 returns-2 c =
-    let at = c .before in
-    let s = c .before .before .before .before .before .before .before in
-    let a = s .args in
+    let entry = c .before .before .before .before .before .before .before in
+    let a = entry .args in
+    let at = c .before .loop in
     let F = galois (a .m) in
     let t = c .loop-test .left in
-    same-ends (map (evaluate F (a .f .now)) (pointsOf (a .xs .now) (a .ys .now) (a .places .now))) (a .symbols .now) (at .loop .i) (at .loop .inv) (rw (values-length (a .xs .now) (a .ys .now) (a .places .now) F (a .f .now)) t) (omega (arith, t, s .pre .1 .1))
+    same-ends (map (evaluate F (a .f .now)) (pointsOf (a .xs .now) (a .ys .now) (a .places .now))) (a .symbols .now) (at .i) (at .inv) (rw (values-length (a .xs .now) (a .ys .now) (a .places .now) F (a .f .now)) t) (omega (arith, t, entry .pre .1 .1))
 
 pub agrees-spec : {M : Type 1} → statement M
 agrees-spec =
@@ -81,11 +86,10 @@ agrees-spec =
     Inv-loop
     μ-loop
     loop-holds
-    mul-place
-    shared-slice-read-place
+    chosen-place-requires
     point-at-requires
     value-requires
-    shared-slice-read-if1
+    message-symbol-requires
     returns
     add-i
     loop-less

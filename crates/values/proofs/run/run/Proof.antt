@@ -1,5 +1,5 @@
 -- The loop's invariant: the arrays show the pair and the interpolant of the first i places.
-use mathlib.Core.Path.{_≡_, refl, sym, _∙_}
+use mathlib.Core.Path.{_≡_, sym, _∙_}
 use Prim.Native.Nat.{_≤_, _-_}
 use native.Mathlib.Omega.{arith}
 use lib.ListN.{length, getD}
@@ -22,59 +22,70 @@ abbrev μ-loop : tie.MeasureT-loop
 μ-loop m powers logs xs ys places symbols count l₀ u₀ f₀ n₀ i₀ l u f n i = count - i
 
 begin-requires : tie.Need-begin-requires Inv-loop μ-loop
-begin-requires c κs = let pre = c .before .before .before .before .before .before .before .before .before .pre .1 .0 in (pre .1 ∙ sym (pre .0 .as-many), pre .2 ∙ sym (pre .0 .as-many))
+begin-requires c κs =
+    let entry = c .before .before .before .before .before .before .before .before .before in
+    let pre = entry .pre .1 .0 in
+    (pre .1 ∙ sym (pre .0 .as-many), pre .2 ∙ sym (pre .0 .as-many))
 
 clear-requires : tie.Need-clear-requires Inv-loop μ-loop
 clear-requires c κs = search needs
 
+first-sizes-requires : tie.Need-first-sizes-requires Inv-loop μ-loop
+first-sizes-requires c κs = search needs
+
 loop-holds : tie.Need-loop-holds Inv-loop μ-loop
 unfolding after
 loop-holds c =
-    let s = c .before .before .before .before .before .before .before .before .before .before .before .before .before .before .before .before .before .before in
-    let b = c .before .before .before .before .before .before .before .before .begin .ensures in
-    let z = c .before .before .clear in
-    let p = begins (s .pre .0 .field) (s .pre .1 .0 .0) refl refl refl (b .0) (b .1) in
-    let w = begins-word (s .pre .0 .field) (s .pre .1 .0 .0) (z .kept .0 ∙ s .pre .1 .0 .3) (rw (← z .kept .0) at (z .ensures)) in
-    (p .low-values .size, p .high-values .size, w .size, omega arith, p, w)
+    let entry = c .before .before .before .before .before .before .before .before .before .before .before .before .before .before .before .before .before .before .before in
+    let begun = c .before .before .before .before .before .before .before .before .before .begin in
+    let pre = entry .pre .1 .0 in
+    let zeros = c .before .before .before .clear in
+    let n = c .first-sizes .ensures in
+    let p = begins (entry .pre .0 .field) (pre .0) (n .0) (n .1) (n .2) (begun .ensures .0) (begun .ensures .1) in
+    let w = begins-word (entry .pre .0 .field) (pre .0) (zeros .kept .0 ∙ pre .3) (rw (← zeros .kept .0) at (zeros .ensures)) in
+    (begun .kept .1 .0 ∙ pre .1, begun .kept .1 .1 .0 ∙ pre .2, w .size, omega arith, p, w)
 
-mul-place : tie.Need-mul-place Inv-loop μ-loop
-mul-place c = search needs
+chosen-place-requires : tie.Need-chosen-place-requires Inv-loop μ-loop
+chosen-place-requires c κs =
+    let entry = c .before .before .before .before .before .before .before .before .before .before .before .before .before .before .before .before .before .before .before .before .before in
+    omega (arith, entry .pre .1 .1 .0 .within .enough)
 
-shared-slice-read-place : tie.Need-shared-slice-read-place Inv-loop μ-loop
-shared-slice-read-place c = omega (arith, c .before .before .before .before .before .before .before .before .before .before .before .before .before .before .before .before .before .before .before .before .before .pre .1 .1 .0 .within .enough)
-
-index-of-requires : tie.Need-index-of-requires Inv-loop μ-loop
-index-of-requires c κs = c .before .before .before .before .before .before .before .before .before .before .before .before .before .before .before .before .before .before .before .before .before .pre .1 .1 .0 .within .is-place (c .before .before .loop .i) (c .before .loop-test .taken) .one
-
-shared-slice-read-word-turn : tie.Need-shared-slice-read-word-turn Inv-loop μ-loop
-shared-slice-read-word-turn c = search needs
+message-symbol-requires : tie.Need-message-symbol-requires Inv-loop μ-loop
+message-symbol-requires c κs =
+    let entry = c .before .before .before .before .before .before .before .before .before .before .before .before .before .before .before .before .before .before .before .before .before .before in
+    omega (arith, entry .pre .1 .1 .1, c .before .loop-test .taken)
 
 word-turn-requires : tie.Need-word-turn-requires Inv-loop μ-loop
 word-turn-requires c κs =
-    let s = c .before .before .before .before .before .before .before .before .before .before .before .before .before .before .before .before .before .before .before .before .before .before .before .before .before .before in
-    let at = c .before .before .before .before .before .before .before .loop in
-    let h = c .before .before .before .before .before .before .loop-test .taken in
-    let place = s .pre .1 .1 .0 .within .is-place (at .i) h in
-    (s .pre .0, (omega (arith, place .one, place .most, c .before .before .before .before .index-of .ensures), fits (at .inv .0) (at .inv .1) (s .pre .1 .1 .0 .small (at .i) h) (at .inv .4), at .inv .2))
+    let entry = c .before .before .before .before .before .before .before .before .before .before .before .before .before .before .before .before .before .before .before .before .before .before .before .before .before .before in
+    let runs = entry .pre .1 .1 .0 in
+    let at = c .before .before .before .before .before .before .loop in
+    let h = c .before .before .before .before .before .loop-test .taken in
+    let chosen = c .before .before .before .before .chosen-place .ensures in
+    let place = runs .within .is-place (at .i) h in
+    (entry .pre .0, (omega (arith, place .one, chosen), omega (arith, place .most, chosen), fits (at .inv .0) (at .inv .1) (runs .small (at .i) h) (at .inv .4), at .inv .2))
 
 add-i : tie.Need-add-i Inv-loop μ-loop
-add-i c = record { fits = omega (arith, c .before .before .before .before .before .before .before .before .before .before .before .before .before .loop-test .taken, c .before .before .before .before .before .before .before .before .before .before .before .before .before .before .before .before .before .before .before .before .before .before .before .before .before .before .before .before .before .before .before .before .before .fits .count .fits) }
+add-i c =
+    let entry = c .before .before .before .before .before .before .before .before .before .before .before .before .before .before .before .before .before .before .before .before .before .before .before .before .before .before .before .before .before .before .before .before .before in
+    record { fits = omega (arith, c .before .before .before .before .before .before .before .before .before .before .before .before .loop-test .taken, entry .fits .count .fits) }
 
 loop-less : tie.Need-loop-less Inv-loop μ-loop
 loop-less c = search needs
 
 loop-again : tie.Need-loop-again Inv-loop μ-loop
 loop-again c =
-    let s = c .before .before .before .before .before .before .before .before .before .before .before .before .before .before .before .before .before .before .before .before .before .before .before .before .before .before .before .before .before .before .before .before .before in
-    let at = c .before .before .before .before .before .before .before .before .before .before .before .before .before .before .loop in
-    let h = c .before .before .before .before .before .before .before .before .before .before .before .before .before .loop-test .taken in
-    let r = rw (c .before .before .before .before .before .before .before .before .before .before .before .index-of .ensures) at (c .before .before .before .before .before .before .word-turn .ensures) in
-    let a = s .args in
+    let entry = c .before .before .before .before .before .before .before .before .before .before .before .before .before .before .before .before .before .before .before .before .before .before .before .before .before .before .before .before .before .before .before .before .before in
+    let runs = entry .pre .1 .1 .0 in
+    let at = c .before .before .before .before .before .before .before .before .before .before .before .before .before .loop in
+    let h = c .before .before .before .before .before .before .before .before .before .before .before .before .loop-test .taken in
+    let r = rw (c .before .before .before .before .before .before .before .before .before .before .before .chosen-place .ensures, c .before .before .before .before .before .before .before .before .before .before .message-symbol .ensures) at (c .before .before .before .before .before .before .word-turn .ensures) in
+    let a = entry .args in
     let F = galois (a .m) in
     let state = after F (pointsOf (a .xs .now) (a .ys .now) (a .places .now)) (a .symbols .now) (at .i) in
-    let pair = r .pair .next (a .ys .now) 0 state (getD (a .symbols .now) (at .i) 0) (omega arith) (omega arith) (s .pre .1 .1 .0 .small (at .i) h) (at .inv .4) in
+    let pair = r .pair .next (a .ys .now) 0 state (getD (a .symbols .now) (at .i) 0) (omega arith) (omega arith) (runs .small (at .i) h) (at .inv .4) in
     let word = r .next (a .ys .now) state (at .inv .4) (at .inv .5) in
-    let more = after-more (a .xs .now) (a .ys .now) (a .places .now) (at .i) (omega (arith, s .pre .1 .1 .0 .within .enough)) F (a .symbols .now) in
+    let more = after-more (a .xs .now) (a .ys .now) (a .places .now) (at .i) (omega (arith, runs .within .enough)) F (a .symbols .now) in
     (r .pair .first-size, r .pair .second-size, r .word-size, omega arith, rw more at pair, rw more at word)
 
 same-length : tie.Need-same-length Inv-loop μ-loop
@@ -88,8 +99,9 @@ same-length-3 c = search needs
 
 returns : tie.Need-returns Inv-loop μ-loop
 returns c =
+    let entry = c .before .before .before .before .before .before .before .before .before .before .before .before .before .before .before .before .before .before .before .before .before in
     let at = c .before .loop in
-    let full : at .i ≡ c .before .before .before .before .before .before .before .before .before .before .before .before .before .before .before .before .before .before .before .before .args .count = omega arith in
+    let full : at .i ≡ entry .args .count = omega arith in
     rw (← full) (at .inv .4, at .inv .5)
 
 pub run-spec : {M : Type 1} → statement M
@@ -100,11 +112,10 @@ run-spec =
     μ-loop
     begin-requires
     clear-requires
+    first-sizes-requires
     loop-holds
-    mul-place
-    shared-slice-read-place
-    index-of-requires
-    shared-slice-read-word-turn
+    chosen-place-requires
+    message-symbol-requires
     word-turn-requires
     add-i
     loop-less

@@ -1,6 +1,6 @@
 -- The loop's invariant: the arrays show the pair of the first i points, at the points from i on.
 use mathlib.Core.List.{[]}
-use mathlib.Core.Path.{_≡_, refl, sym, _∙_}
+use mathlib.Core.Path.{_≡_, sym, _∙_}
 use Prim.Native.Nat.{_≤_, _-_}
 use native.Mathlib.Omega.{arith}
 use lib.ListN.{length}
@@ -19,25 +19,33 @@ abbrev μ-loop : tie.MeasureT-loop
 μ-loop m powers logs xs ys count l₀ u₀ n₀ i₀ l u n i = count - i
 
 begin-requires : tie.Need-begin-requires Inv-loop μ-loop
-begin-requires c κs = let pre = c .before .before .before .before .before .before .pre .1 .0 in (pre .1 ∙ sym (pre .0 .as-many), pre .2 ∙ sym (pre .0 .as-many))
+begin-requires c κs =
+    let entry = c .before .before .before .before .before .before in
+    let pre = entry .pre .1 .0 in
+    (pre .1 ∙ sym (pre .0 .as-many), pre .2 ∙ sym (pre .0 .as-many))
+
+first-sizes-requires : tie.Need-first-sizes-requires Inv-loop μ-loop
+first-sizes-requires c κs = search needs
 
 loop-holds : tie.Need-loop-holds Inv-loop μ-loop
 unfolding after
 loop-holds c =
-    let s = c .before .before .before .before .before .before .before .before .before .before .before in
-    let b = c .before .before .before .before .begin .ensures in
-    let p = begins (s .pre .0 .field) (s .pre .1 .0 .0) refl refl refl (b .0) (b .1) in
-    (p .low-values .size, p .high-values .size, omega arith, p)
+    let entry = c .before .before .before .before .before .before .before .before .before .before .before .before in
+    let begun = c .before .before .before .before .before .begin in
+    let pre = entry .pre .1 .0 in
+    let n = c .first-sizes .ensures in
+    let p = begins (entry .pre .0 .field) (pre .0) (n .0) (n .1) (n .2) (begun .ensures .0) (begun .ensures .1) in
+    (begun .kept .1 .0 ∙ pre .1, begun .kept .1 .1 .0 ∙ pre .2, omega arith, p)
 
 add-pair-turn : tie.Need-add-pair-turn Inv-loop μ-loop
 add-pair-turn c = search needs
 
 pair-turn-requires : tie.Need-pair-turn-requires Inv-loop μ-loop
 pair-turn-requires c κs =
-    let s = c .before .before .before .before .before .before .before .before .before .before .before .before .before .before .before in
+    let entry = c .before .before .before .before .before .before .before .before .before .before .before .before .before .before .before .before in
     let at = c .before .before .before .loop in
     let h = c .before .before .loop-test .taken in
-    (s .pre .0, (omega (arith, s .pre .1 .1 .enough), fits (at .inv .0) (at .inv .1) (s .pre .1 .1 .small (at .i) h) (at .inv .3)))
+    (entry .pre .0, (omega (arith, entry .pre .1 .1 .enough), fits (at .inv .0) (at .inv .1) (entry .pre .1 .1 .small (at .i) h) (at .inv .3)))
 
 add-i : tie.Need-add-i Inv-loop μ-loop
 add-i c = search needs
@@ -47,13 +55,13 @@ loop-less c = search needs
 
 loop-again : tie.Need-loop-again Inv-loop μ-loop
 loop-again c =
-    let s = c .before .before .before .before .before .before .before .before .before .before .before .before .before .before .before .before .before .before .before .before in
+    let entry = c .before .before .before .before .before .before .before .before .before .before .before .before .before .before .before .before .before .before .before .before .before in
     let at = c .before .before .before .before .before .before .before .before .loop in
     let h = c .before .before .before .before .before .before .before .loop-test .taken in
     let r = c .before .before .before .before .pair-turn .ensures in
-    let a = s .args in
-    let more = r .next (a .ys .now) (at .i) _ 0 (omega arith) (omega arith) (s .pre .1 .1 .small (at .i) h) (at .inv .3) in
-    (r .first-size, r .second-size, omega arith, rw (first-more (a .m) (a .xs .now) (a .ys .now) (at .i) (omega (arith, s .pre .1 .1 .enough))) at more)
+    let a = entry .args in
+    let more = r .next (a .ys .now) (at .i) _ 0 (omega arith) (omega arith) (entry .pre .1 .1 .small (at .i) h) (at .inv .3) in
+    (r .first-size, r .second-size, omega arith, rw (first-more (a .m) (a .xs .now) (a .ys .now) (at .i) (omega (arith, entry .pre .1 .1 .enough))) at more)
 
 same-length : tie.Need-same-length Inv-loop μ-loop
 same-length c = search needs
@@ -63,8 +71,9 @@ same-length-2 c = search needs
 
 returns : tie.Need-returns Inv-loop μ-loop
 returns c =
+    let entry = c .before .before .before .before .before .before .before .before .before .before .before .before .before .before in
     let at = c .before .loop in
-    let full : at .i ≡ c .before .before .before .before .before .before .before .before .before .before .before .before .before .args .count = omega arith in
+    let full : at .i ≡ entry .args .count = omega arith in
     rw (← full) (at .inv .3)
 
 pub run-pair-spec : {M : Type 1} → statement M
@@ -74,6 +83,7 @@ run-pair-spec =
     Inv-loop
     μ-loop
     begin-requires
+    first-sizes-requires
     loop-holds
     add-pair-turn
     pair-turn-requires

@@ -1,10 +1,15 @@
 -- The two cases of a step: L is zero at the place, or it is not.
+use Prim.Native.Nat.{_<_}
 use mathlib.Core.Path.{refl}
 use native.Mathlib.Omega.{arith}
+use lib.ListN.{length}
 use Rattle.values.proofs.Steps.{keeps, steps, word-keeps, word-steps}
 use borrow.Author.Needs.{needs}
 use Rattle.values.proofs.word.word_step.Statement.{statement}
 use Rattle.values.proofs.word.word_step.Tie as tie
+
+index-of-requires : tie.Need-index-of-requires
+index-of-requires c κs = search needs
 
 shared-slice-read-alpha : tie.Need-shared-slice-read-alpha
 shared-slice-read-alpha c = search needs
@@ -35,12 +40,15 @@ same-length-2 c = search needs
 
 returns : tie.Need-returns
 returns c =
-    let s = c .before .before .before .before .before .before .before .before .before .before .before .before .before .before .before .before .before .before in
-    let fits = s .pre .1 .1 in
-    let swept = c .before .before .before .before .before .gain-raise .ensures in
+    let entry = c .before .before .before .before .before .before .before .before .before .before .before .before .before .before .before .before .before .before .before in
+    let index = c .before .before .before .before .before .before .before .before .before .before .before .before .before .before .index-of in
+    let pre = entry .pre .1 in
+    let fits = pre .2 in
+    let inside : index .result < length (entry .args .xs .now) = omega (arith, index .ensures, pre .0, pre .1) in
     let zero = c .before .before .before .before .before .before .before .before .before .before .if1 .taken in
-    let pair = keeps (s .pre .0 .field) (s .pre .1 .0) _ _ (fits .first) (fits .second) zero (swept .0) refl refl (c .grown .ensures) in
-    word-keeps (s .pre .0 .field) (s .args .v) (s .pre .1 .0) (s .pre .1 .2) pair _ zero (c .before .before .before .before .before .before .before .before .quotient .ensures) (swept .1)
+    let swept = c .before .before .before .before .before .gain-raise .ensures in
+    let pair = keeps (entry .pre .0 .field) inside _ _ (fits .first) (fits .second) zero (swept .0) refl refl (c .grown .ensures) in
+    rw (← index .ensures) (word-keeps (entry .pre .0 .field) (entry .args .v) inside (pre .3) pair _ zero (c .before .before .before .before .before .before .before .before .quotient .ensures) (swept .1))
 
 slice-read-quotient-2 : tie.Need-slice-read-quotient-2
 slice-read-quotient-2 c = search needs
@@ -55,7 +63,9 @@ gain-both-raise-requires : tie.Need-gain-both-raise-requires
 gain-both-raise-requires c κs = search needs
 
 grown-requires-2 : tie.Need-grown-requires-2
-grown-requires-2 c κs = omega (arith, c .before .before .before .before .before .before .before .before .before .before .before .before .before .before .before .before .before .before .before .before .before .pre .1 .1 .low-room)
+grown-requires-2 c κs =
+    let entry = c .before .before .before .before .before .before .before .before .before .before .before .before .before .before .before .before .before .before .before .before .before .before in
+    omega (arith, entry .pre .1 .2 .low-room)
 
 longer-requires : tie.Need-longer-requires
 longer-requires c κs = search needs
@@ -74,17 +84,22 @@ same-length-5 c = search needs
 
 returns-2 : tie.Need-returns-2
 returns-2 c =
-    let s = c .before .before .before .before .before .before .before .before .before .before .before .before .before .before .before .before .before .before .before .before .before .before .before .before in
-    let fits = s .pre .1 .1 in
-    let swept = c .before .before .before .before .before .before .before .before .before .gain-both-raise .ensures in
+    let entry = c .before .before .before .before .before .before .before .before .before .before .before .before .before .before .before .before .before .before .before .before .before .before .before .before .before in
+    let index = c .before .before .before .before .before .before .before .before .before .before .before .before .before .before .before .before .before .before .before .before .index-of in
+    let pre = entry .pre .1 in
+    let fits = pre .2 in
+    let inside : index .result < length (entry .args .xs .now) = omega (arith, index .ensures, pre .0, pre .1) in
     let other = c .before .before .before .before .before .before .before .before .before .before .before .before .before .before .before .before .if1 .left in
-    let pair = steps (s .pre .0 .field) (s .pre .1 .0) _ _ (fits .first) (fits .second) other (c .before .before .before .before .before .before .before .before .before .before .before .before .before .before .quotient2 .ensures) (swept .0) (swept .1) (rw (c .before .before .grown2 .ensures, c .before .longer .ensures) at (c .ordered .ensures)) in
-    word-steps (s .pre .0 .field) (s .args .v) (s .pre .1 .0) (s .pre .1 .2) pair _ other (c .before .before .before .before .before .before .before .before .before .before .before .before .before .quotient3 .ensures) (swept .2)
+    let swept = c .before .before .before .before .before .before .before .before .before .gain-both-raise .ensures in
+    let order = rw (c .before .before .grown2 .ensures, c .before .longer .ensures) at (c .ordered .ensures) in
+    let pair = steps (entry .pre .0 .field) inside _ _ (fits .first) (fits .second) other (c .before .before .before .before .before .before .before .before .before .before .before .before .before .before .quotient2 .ensures) (swept .0) (swept .1) order in
+    rw (← index .ensures) (word-steps (entry .pre .0 .field) (entry .args .v) inside (pre .3) pair _ other (c .before .before .before .before .before .before .before .before .before .before .before .before .before .quotient3 .ensures) (swept .2))
 
 pub word-step-spec : {M : Type 1} → statement M
 word-step-spec =
     tie.close
     (tie.spec
+    index-of-requires
     shared-slice-read-alpha
     slice-read-missing
     slice-read-at

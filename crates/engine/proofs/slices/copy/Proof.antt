@@ -4,16 +4,16 @@ use Prim.Native.Nat.{_≤_, _-_}
 use native.Mathlib.Omega.{arith}
 use lib.ListN.{length, getD, length-set}
 use Rattle.basics.proofs.Loops.{filled, filled-turn, filled-front}
 use Rattle.engine.proofs.Laws.{table-take}
 use borrow.Author.Needs.{needs}
-use Rattle.interpolation.proofs.write.copy.Statement.{statement}
-use Rattle.interpolation.proofs.write.copy.Tie as tie
+use Rattle.engine.proofs.slices.copy.Statement.{statement}
+use Rattle.engine.proofs.slices.copy.Tie as tie
 
 abbrev Inv-loop : tie.InvT-loop
-Inv-loop f n out₀ i₀ out i = (i ≤ n) × (length out ≡ length out₀) × (out ≡ filled (λ k. getD f k 0) out₀ i)
+Inv-loop from n out₀ i₀ out i = (i ≤ n) × (length out ≡ length out₀) × (out ≡ filled (λ k. getD from k 0) out₀ i)
 
 abbrev μ-loop : tie.MeasureT-loop
-μ-loop f n out₀ i₀ out i = n - i
+μ-loop from n out₀ i₀ out i = n - i
 
 loop-holds : tie.Need-loop-holds Inv-loop μ-loop
 loop-holds c = (omega arith, refl, refl)
@@ -34,7 +34,7 @@ loop-again : tie.Need-loop-again Inv-loop μ-loop
 loop-again c =
     let at = c .before .before in
     let a = c .before .before .before .args in
-    (omega arith, simp length-set (at .loop .inv .1), filled-turn (λ k. getD (a .f .now) k 0) (a .out .now) (at .loop .i) (omega arith) (at .loop .inv .2) refl)
+    (omega arith, simp length-set (at .loop .inv .1), filled-turn (λ k. getD (a .from .now) k 0) (a .out .now) (at .loop .i) (omega arith) (at .loop .inv .2) refl)
 
 same-length : tie.Need-same-length Inv-loop μ-loop
 same-length c = c .before .loop .inv .1
@@ -44,7 +44,7 @@ returns c =
     let at = c .before in
     let s = c .before .before in
     let full : at .loop .i ≡ s .args .n = omega arith in
-    rw (at .loop .inv .2, full) (filled-front (λ k. getD (s .args .f .now) k 0) (s .args .out .now) (s .args .n) ∙ table-take (s .args .f .now) (s .args .n) (s .pre .0))
+    rw (at .loop .inv .2, full) (filled-front (λ k. getD (s .args .from .now) k 0) (s .args .out .now) (s .args .n) ∙ table-take (s .args .from .now) (s .args .n) (s .pre .0))
 
 pub copy-spec : {M : Type 1} → statement M
 copy-spec =
