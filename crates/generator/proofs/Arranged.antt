@@ -9,10 +9,11 @@ use native.Mathlib.Decide.{ℕ-discrete}
 use native.Mathlib.Omega.{arith}
 use borrow.Author.Tests.{eq-eqb, ne-eqb}
 use lib.Dec.{eqb}
-use lib.ListN.{length, getD, set, take, length-append, length-set}
-use lib.Seq.{getD-append-seam, getD-set-same, getD-set-other, take-suc}
+use lib.ListN.{length, getD, set, take, drop, length-append, length-set, List·getD-append}
+use lib.Seq.{getD-append-seam, getD-set-same, getD-set-other, take-suc, length-take-le, length-front}
 use Rattle.basics.specs.Lists.{any, table}
 use Rattle.basics.proofs.Lists.{any-append, any-get, length-table, getD-table, is-table}
+use Rattle.engine.specs.Places.{coordinateAt, Chosen}
 use Rattle.generator.specs.Arranged.{freeAt, rank, Places, Apart, Gathered, Arrangeable, Arranged}
 
 -- ---- whether an index is free
@@ -160,9 +161,22 @@ module _ {J free from out : List ℕ} (h : Arrangeable J free from out) where
   pub places-fit : length J ≤ length out
   places-fit = omega (arith, rank-all (length from) J (h .places) (h .apart), h .room)
 
-  -- the same of what was written to in between
-  pub arrangeable-still : {new : List ℕ} → length new ≡ length out → Arrangeable J free from new
-  arrangeable-still e = record { places = h .places; apart = h .apart; frees = h .frees; room = e ∙ h .room; few = h .few }
+  front-long : length (take (length J) out) ≡ length J
+  front-long = length-take-le (length J) out places-fit
+
+  -- the coordinates at the places are gathered in the front
+  pub front-chosen : Chosen (length from) J (length (take (length J) out))
+  front-chosen = rw front-long (record { enough = omega arith; is-place = h .places })
+
+  pub front-gathered : {front : List ℕ} → front ≡ table (coordinateAt from J) (length (take (length J) out)) → Gathered from J (front ++ drop (length J) out)
+  front-gathered {front} e j l =
+      let all : front ≡ table (coordinateAt from J) (length J) = e ∙ ap (table (coordinateAt from J)) front-long in
+      let long : length front ≡ length J = ap length all ∙ length-table (coordinateAt from J) (length J) in
+      List·getD-append front (drop (length J) out) 0 j (omega (arith, long)) ∙ ap (λ f. getD f j 0) all ∙ getD-table (coordinateAt from J) (length J) j 0 l
+
+  pub front-arrangeable : (front : List ℕ) → length front ≡ length (take (length J) out) → Arrangeable J free from (front ++ drop (length J) out)
+  front-arrangeable front e =
+      record { places = h .places; apart = h .apart; frees = h .frees; room = length-front out front (length J) e ∙ h .room; few = h .few }
 
 -- all that come before t are put, and s is where the next one goes
 pub record ArrangedTo (from J out : List ℕ) (t s : ℕ) : Type 0 where

@@ -1,11 +1,12 @@
 -- The coordinates of all points in another order: those at the chosen places first, in the order of these, and then the others in ascending order.
-use Prim.Native.Nat.{ℕ, zero, suc, _+_, _-_, _<_, _≤_}
+use Prim.Native.Nat.{ℕ, zero, suc, _+_, _<_, _≤_}
 use mathlib.Core.Path.{_≡_}
 use mathlib.Core.Bool.{cond}
 use mathlib.Core.List.{List}
 use lib.Dec.{eqb}
 use lib.ListN.{length, getD}
 use Rattle.basics.specs.Lists.{any, table}
+use Rattle.engine.specs.Places.{coordinateAt}
 
 -- 1 where the point with index t, whose place is t + 1, is at none of the places, and else 0
 abbrev pub freeAt : List ℕ → ℕ → ℕ
@@ -24,13 +25,9 @@ Places n J = (j : ℕ) → j < length J → (1 ≤ getD J j 0) × (getD J j 0 �
 abbrev pub Apart : List ℕ → Type 0
 Apart J = (i j : ℕ) → i < j → j < length J → getD J i 0 ≡ getD J j 0 → ⊥
 
--- the coordinate at the j-th place
-abbrev pub chosenAt : List ℕ → List ℕ → ℕ → ℕ
-chosenAt from J j = getD from (getD J j 0 - 1) 0
-
--- they stand at the front of out
+-- the coordinates at the places stand at the front of out
 abbrev pub Gathered : List ℕ → List ℕ → List ℕ → Type 0
-Gathered from J out = (j : ℕ) → j < length J → getD out j 0 ≡ chosenAt from J j
+Gathered from J out = (j : ℕ) → j < length J → getD out j 0 ≡ coordinateAt from J j
 
 -- what is lent: different places, the free indices marked, and room for all points
 pub record Arrangeable (J free from out : List ℕ) : Type 0 where
@@ -43,5 +40,5 @@ pub record Arrangeable (J free from out : List ℕ) : Type 0 where
 -- out has the coordinates at the first places in front, as many as count, and behind them those at the free indices
 pub record Arranged (from J : List ℕ) (count : ℕ) (out : List ℕ) : Type 0 where
   pub size : length out ≡ length from
-  pub chosen : (j : ℕ) → j < count → getD out j 0 ≡ chosenAt from J j
+  pub chosen : (j : ℕ) → j < count → getD out j 0 ≡ coordinateAt from J j
   pub rest : (t : ℕ) → t < length from → freeAt J t ≡ 1 → getD out (count + rank (freeAt J) t) 0 ≡ getD from t 0

@@ -1,6 +1,8 @@
 // The coordinates of all points with those at chosen places in front, so that a loop over the other points needs no test.
-use basics::Place;
-use values::run::index_of;
+use basics::MessageIndex;
+use engine::places::chosen_place;
+use engine::places::gather;
+use engine::places::index_of;
 ghost use mathlib.Core.Path.{_≡_};
 ghost use Prim.Native.Nat.{_≤_};
 ghost use lib.ListN.{length};
@@ -27,22 +29,9 @@ pub fn mark(places: &[u16], free: &mut [u8])
     fill_ones(free);
     let mut j = 0;
     while j < places.len() {
-        let place = places[j];
-        let i = index_of(Place(place));
+        let place = chosen_place(places, MessageIndex(j));
+        let i = index_of(place);
         free[i] = 0;
-        j += 1;
-    }
-}
-
-// The coordinates at the places, to the front.
-fn gather(places: &[u16], from: &[u8], out: &mut [u8])
-    requires { ⌜ Places (length (now from)) (now places) × (length (now places) ≤ length (now out)) ⌝ }
-    ensures { λ _. ⌜ Gathered (now (from .entry)) (now (places .entry)) (now (out .exit)) ⌝ }
-{
-    let mut j = 0;
-    while j < places.len() {
-        let place = places[j];
-        out[j] = from[index_of(Place(place))];
         j += 1;
     }
 }
@@ -69,6 +58,7 @@ pub fn arrange(places: &[u16], free: &[u8], from: &[u8], out: &mut [u8])
     requires { ⌜ Arrangeable (now places) (now free) (now from) (now out) ⌝ }
     ensures { λ _. ⌜ Arranged (now (from .entry)) (now (places .entry)) (length (now (places .entry))) (now (out .exit)) ⌝ }
 {
-    gather(places, from, out);
+    let k = places.len();
+    gather(places, from, &mut out[..k]);
     place_rest(places, free, from, out);
 }

@@ -1,11 +1,13 @@
 // The entries of a row of the matrix, by its factors. A row is that of a unit message, and so has a message index.
 use basics::MessageIndex;
+use basics::Place;
+use engine::places::index_of;
 use field::logarithm;
 use field::product;
 use field::product_by_log;
 use field::quotient;
 ghost use mathlib.Core.Path.{_≡_};
-ghost use Prim.Native.Nat.{_+_, _<_, _≤_};
+ghost use Prim.Native.Nat.{_+_, _-_, _<_, _≤_};
 ghost use lib.ListN.{length, getD, set};
 ghost use Rattle.basics.specs.Lists.{table};
 ghost use Rattle.field.specs.Galois.{IsField};
@@ -87,13 +89,13 @@ fn entry(
     quotient(m, powers, logs, top, alpha ^ x)
 }
 
-// The symbols of the row of a message index, whose own place has the index c. The points that are not chosen stand behind the first count, in their order.
+// The symbols of the row of a message index, with its own place. The points that are not chosen stand behind the first count, in their order.
 pub fn fill_row(
     m: u8,
     powers: &[u8; 255],
     logs: &[u8; 256],
     index: MessageIndex,
-    c: usize,
+    place: Place,
     count: usize,
     free: &[u8],
     xs: &[u8],
@@ -105,9 +107,9 @@ pub fn fill_row(
 )
     requires { ⌜ Tables m (now powers) (now logs) ⌝ }
     requires { ⌜ RowLists (now xs) (now a) (now b) count × (length (now l) ≡ length (now xs)) × (length (now u) ≡ length (now xs)) × (length (now xs) ≤ 288) ⌝ }
-    requires { ⌜ (index .0 < count) × (c < length (now row)) × (length (now row) ≡ length (now xs)) × (length (now free) ≡ length (now xs))
+    requires { ⌜ (index .0 < count) × (1 ≤ place .0) × (place .0 ≤ length (now row)) × (length (now row) ≡ length (now xs)) × (length (now free) ≡ length (now xs))
         × (count + rank (λ i. getD (now free) i 0) (length (now xs)) ≤ length (now xs)) ⌝ }
-    ensures { λ _. ⌜ now (row .exit) ≡ set (table (symbolAt count (now (free .entry)) (entryAt m (now (xs .entry)) (now (l .entry)) (now (u .entry)) (now (a .entry)) (now (b .entry)) count (index .0))) (length (now (xs .entry)))) c 1 ⌝ }
+    ensures { λ _. ⌜ now (row .exit) ≡ set (table (symbolAt count (now (free .entry)) (entryAt m (now (xs .entry)) (now (l .entry)) (now (u .entry)) (now (a .entry)) (now (b .entry)) count (index .0))) (length (now (xs .entry)))) (place .0 - 1) 1 ⌝ }
 {
     let j = index.0;
     let la = factor(m, logs, a[j]);
@@ -124,5 +126,5 @@ pub fn fill_row(
         s += wide(f);
         i += 1;
     }
-    row[c] = 1;
+    row[index_of(place)] = 1;
 }

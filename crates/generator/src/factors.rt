@@ -1,5 +1,7 @@
 // The rows of the matrix while points are added: of each row's function f the factors a and b for which (X + x)·f is a·l + b·u at the points still to
-// come. So a point costs two products a row, whatever the number of points.
+// come. So a point costs two products a row, whatever the number of points. The chosen points stand first, in the order of their places, so the index of
+// one that is added is its message index.
+use basics::MessageIndex;
 use engine::pair::Sizes;
 use engine::pair::swapped;
 use field::inverse;
@@ -61,12 +63,12 @@ fn find_over(xs: &[u8], count: usize, alpha: u8) -> usize
     o
 }
 
-// The first i rows with one more point, and its own row, where the function that is raised is rc and the other t·rc.
+// The rows so far with one more point, and its own row, where the function that is raised is rc and the other t·rc.
 fn raise_rows(
     m: u8,
     powers: &[u8; 255],
     logs: &[u8; 256],
-    i: usize,
+    index: MessageIndex,
     rc: u8,
     t: u8,
     xs: &[u8],
@@ -74,9 +76,10 @@ fn raise_rows(
     b: &mut [u8],
 )
     requires { ⌜ Tables m (now powers) (now logs) ⌝ }
-    requires { ⌜ RowLists (now xs) (now a) (now b) (i + 1) × (length (now xs) ≤ 288) ⌝ }
-    ensures { λ _. ⌜ RowsRaised m i rc t (now (xs .entry)) (now (a .entry)) (now (b .entry)) (now (a .exit)) (now (b .exit)) ⌝ }
+    requires { ⌜ RowLists (now xs) (now a) (now b) (index .0 + 1) × (length (now xs) ≤ 288) ⌝ }
+    ensures { λ _. ⌜ RowsRaised m (index .0) rc t (now (xs .entry)) (now (a .entry)) (now (b .entry)) (now (a .exit)) (now (b .exit)) ⌝ }
 {
+    let i = index.0;
     let alpha = xs[i];
     let own = inverse(m, powers, logs, rc);
     let sum = take_multiples(m, powers, logs, alpha, t, i, xs, a, b);
@@ -86,12 +89,12 @@ fn raise_rows(
     b[i] = 0;
 }
 
-// The first i rows with one more point, and its own row, before L, in l, and U, in u, change.
+// The rows so far with one more point, and its own row, before L, in l, and U, in u, change.
 fn raise_either(
     m: u8,
     powers: &[u8; 255],
     logs: &[u8; 256],
-    i: usize,
+    index: MessageIndex,
     xs: &[u8],
     l: &[u8],
     u: &[u8],
@@ -99,25 +102,26 @@ fn raise_either(
     b: &mut [u8],
 )
     requires { ⌜ Tables m (now powers) (now logs) ⌝ }
-    requires { ⌜ (length (now l) ≡ length (now xs)) × (length (now u) ≡ length (now xs)) × RowLists (now xs) (now a) (now b) (i + 1) × (length (now xs) ≤ 288) ⌝ }
-    ensures { λ _. ⌜ RowsEither m i (now (xs .entry)) (now (l .entry)) (now (u .entry)) (now (a .entry)) (now (b .entry)) (now (a .exit)) (now (b .exit)) ⌝ }
+    requires { ⌜ (length (now l) ≡ length (now xs)) × (length (now u) ≡ length (now xs)) × RowLists (now xs) (now a) (now b) (index .0 + 1) × (length (now xs) ≤ 288) ⌝ }
+    ensures { λ _. ⌜ RowsEither m (index .0) (now (xs .entry)) (now (l .entry)) (now (u .entry)) (now (a .entry)) (now (b .entry)) (now (a .exit)) (now (b .exit)) ⌝ }
 {
+    let i = index.0;
     let low = l[i];
     let high = u[i];
     if low == 0 {
-        raise_rows(m, powers, logs, i, high, 0, xs, b, a);
+        raise_rows(m, powers, logs, index, high, 0, xs, b, a);
         return;
     }
     let t = quotient(m, powers, logs, high, low);
-    raise_rows(m, powers, logs, i, low, t, xs, a, b);
+    raise_rows(m, powers, logs, index, low, t, xs, a, b);
 }
 
-// The first i rows with one more point: L is in l and U in u.
+// The rows so far with one more point: L is in l and U in u.
 fn rows_step(
     m: u8,
     powers: &[u8; 255],
     logs: &[u8; 256],
-    i: usize,
+    index: MessageIndex,
     xs: &[u8],
     l: &mut [u8],
     u: &mut [u8],
@@ -126,12 +130,13 @@ fn rows_step(
     n: Sizes,
 ) -> Sizes
     requires { ⌜ Tables m (now powers) (now logs) ⌝ }
-    requires { ⌜ Fits (now xs) (now l) (now u) n × RowLists (now xs) (now a) (now b) (i + 1) × (length (now xs) ≤ 288) ⌝ }
-    ensures { λ r. ⌜ Steps m (now (xs .entry)) i (i + 1) (now (l .entry)) (now (u .entry)) (n .low) (n .high) (now (l .exit)) (now (u .exit)) r
-        × RowsStep m i (now (xs .entry)) (raisedOf i (now (l .entry)) (now (u .entry))) (now (l .entry)) (now (u .entry)) (now (a .entry)) (now (b .entry))
+    requires { ⌜ Fits (now xs) (now l) (now u) n × RowLists (now xs) (now a) (now b) (index .0 + 1) × (length (now xs) ≤ 288) ⌝ }
+    ensures { λ r. ⌜ Steps m (now (xs .entry)) (index .0) (index .0 + 1) (now (l .entry)) (now (u .entry)) (n .low) (n .high) (now (l .exit)) (now (u .exit)) r
+        × RowsStep m (index .0) (now (xs .entry)) (raisedOf (index .0) (now (l .entry)) (now (u .entry))) (now (l .entry)) (now (u .entry)) (now (a .entry)) (now (b .entry))
         (now (l .exit)) (now (u .exit)) (now (a .exit)) (now (b .exit)) ⌝ }
 {
-    raise_either(m, powers, logs, i, xs, l, u, a, b);
+    raise_either(m, powers, logs, index, xs, l, u, a, b);
+    let i = index.0;
     pair_step(m, powers, logs, i, i + 1, xs, l, u, n)
 }
 
@@ -140,7 +145,7 @@ pub fn rows_turn(
     m: u8,
     powers: &[u8; 255],
     logs: &[u8; 256],
-    i: usize,
+    index: MessageIndex,
     xs: &[u8],
     l: &mut [u8],
     u: &mut [u8],
@@ -149,15 +154,15 @@ pub fn rows_turn(
     n: Sizes,
 ) -> Sizes
     requires { ⌜ Tables m (now powers) (now logs) ⌝ }
-    requires { ⌜ Fits (now xs) (now l) (now u) n × RowLists (now xs) (now a) (now b) (i + 1) × (length (now xs) ≤ 288) ⌝ }
-    ensures { λ r. ⌜ Steps m (now (xs .entry)) i (i + 1) (cond (n .turned) (now (u .entry)) (now (l .entry))) (cond (n .turned) (now (l .entry)) (now (u .entry))) (n .low) (n .high)
+    requires { ⌜ Fits (now xs) (now l) (now u) n × RowLists (now xs) (now a) (now b) (index .0 + 1) × (length (now xs) ≤ 288) ⌝ }
+    ensures { λ r. ⌜ Steps m (now (xs .entry)) (index .0) (index .0 + 1) (cond (n .turned) (now (u .entry)) (now (l .entry))) (cond (n .turned) (now (l .entry)) (now (u .entry))) (n .low) (n .high)
         (now (l .exit)) (now (u .exit)) r
-        × RowsStep m i (now (xs .entry)) (raisedOf i (cond (n .turned) (now (u .entry)) (now (l .entry))) (cond (n .turned) (now (l .entry)) (now (u .entry))))
+        × RowsStep m (index .0) (now (xs .entry)) (raisedOf (index .0) (cond (n .turned) (now (u .entry)) (now (l .entry))) (cond (n .turned) (now (l .entry)) (now (u .entry))))
         (now (l .entry)) (now (u .entry)) (now (a .entry)) (now (b .entry)) (now (l .exit)) (now (u .exit)) (now (a .exit)) (now (b .exit)) ⌝ }
 {
     let turned = n.turned;
     if turned {
-        return swapped(rows_step(m, powers, logs, i, xs, u, l, b, a, n));
+        return swapped(rows_step(m, powers, logs, index, xs, u, l, b, a, n));
     }
-    rows_step(m, powers, logs, i, xs, l, u, a, b, n)
+    rows_step(m, powers, logs, index, xs, l, u, a, b, n)
 }

@@ -1,7 +1,9 @@
 // The rows of all points but the last, after which it is known whether they are dependent.
 use crate::arrange::fill_ones;
 use crate::factors::rows_turn;
+use basics::MessageIndex;
 use engine::pair::Sizes;
+use engine::pair::first_sizes;
 ghost use mathlib.Core.Path.{_≡_};
 ghost use Prim.Native.Nat.{_-_, _≤_};
 ghost use lib.ListN.{length};
@@ -29,15 +31,11 @@ pub fn run_rows(
         × Rows m (now (xs .entry)) (now (u .entry)) count (now (l .exit)) (now (u .exit)) (now (a .exit)) (now (b .exit)) (count - 1) ⌝ }
 {
     fill_ones(l);
-    let mut n = Sizes {
-        low: 1,
-        high: 3,
-        turned: false,
-    };
+    let mut n = first_sizes();
     let last = count - 1;
     let mut i = 0;
     while i < last {
-        n = rows_turn(m, powers, logs, i, xs, l, u, a, b, n);
+        n = rows_turn(m, powers, logs, MessageIndex(i), xs, l, u, a, b, n);
         i += 1;
     }
     n

@@ -21,9 +21,13 @@ row-end n i = sym (ap (λ j. j * n) (add-one i) ∙ suc-mul i n)
 pub row-fits : (k n i : ℕ) → i < k → i * n + n ≤ k * n
 row-fits k n i h = rw (row-end n i) (mul-le-mul-right {m = i + 1} {n = k} n (omega arith))
 
--- the part of the buffer that is lent for it
-pub row-length : (n i : ℕ) (out : List ℕ) → i * n + n ≤ length out → length (take (i * n + n - i * n) (drop (i * n) out)) ≡ n
-row-length n i out h = let size : i * n + n - i * n ≡ n = omega arith in part-length out (i * n) (i * n + n - i * n) (omega arith) ∙ size
+-- the part of the buffer that is lent for one
+pub row-length : (n start : ℕ) (out : List ℕ) → start + n ≤ length out → length (take (start + n - start) (drop start out)) ≡ n
+row-length n start out h = let size : start + n - start ≡ n = omega arith in part-length out start (start + n - start) (omega arith) ∙ size
+
+-- a place has its index in it
+pub place-inside : (n start p : ℕ) (out : List ℕ) → start + n ≤ length out → p ≤ n → p ≤ length (take (start + n - start) (drop start out))
+place-inside n start p out h most = omega (arith, row-length n start out h)
 
 pub rows-small : {k n : ℕ} → k ≤ 288 → n ≤ 288 → k * n ≤ 82944
 rows-small h g = mul-le-mul h g

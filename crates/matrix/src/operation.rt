@@ -2,6 +2,7 @@
 use crate::write::begin_rows;
 use crate::write::write_rows;
 use basics::Answer;
+use basics::MessageIndex;
 use basics::Refusal;
 use code::lists::all_different;
 use code::lists::all_places;
@@ -53,7 +54,7 @@ fn matrix_in(
     if zero_in(last, l, u, z) {
         return Answer::Refused(Refusal::Dependent);
     }
-    rows_turn(p.field, powers, logs, last, px, l, u, a, b, z);
+    rows_turn(p.field, powers, logs, MessageIndex(last), px, l, u, a, b, z);
     write_rows(p.field, powers, logs, k, places, px, l, u, a, b, out, work);
     Answer::Done
 }

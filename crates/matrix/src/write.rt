@@ -1,14 +1,13 @@
 // The rows of Matrix: the points with the chosen ones first, the factors of the rows, and then the symbols of each row, in its own part of the buffer.
 use basics::MessageIndex;
-use basics::Place;
 use codewords::Parameters;
 use engine::pair::Sizes;
+use engine::places::chosen_place;
 use generator::arrange::arrange;
 use generator::arrange::mark;
 use generator::entries::fill_row;
 use generator::run::run_rows;
 use solving::work::clear_room;
-use values::run::index_of;
 ghost use mathlib.Core.Path.{_≡_};
 ghost use Prim.Native.Nat.{_≤_};
 ghost use lib.ListN.{length};
@@ -67,13 +66,12 @@ fn fill_rows(
     let n = px.len();
     let mut i = 0;
     while i < k {
-        let place = places[i];
-        let c = index_of(Place(place));
+        let index = MessageIndex(i);
+        let place = chosen_place(places, index);
         let start = i * n;
         let end = start + n;
         let row = &mut out[start..end];
-        let index = MessageIndex(i);
-        fill_row(m, powers, logs, index, c, k, free, px, l, u, a, b, row);
+        fill_row(m, powers, logs, index, place, k, free, px, l, u, a, b, row);
         i += 1;
     }
 }

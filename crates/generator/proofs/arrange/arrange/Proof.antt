@@ -1,16 +1,25 @@
 -- First the chosen coordinates, and then the others behind them.
+use mathlib.Core.Path.{sym}
+use lib.Seq.{length-take-le}
 use borrow.Author.Needs.{needs}
-use Rattle.generator.proofs.Arranged.{places-fit, arrangeable-still}
+use Rattle.generator.proofs.Arranged.{places-fit, front-chosen, front-gathered, front-arrangeable}
 use Rattle.generator.proofs.arrange.arrange.Statement.{statement}
 use Rattle.generator.proofs.arrange.arrange.Tie as tie
 
+slice-relend-prefix-gather : tie.Need-slice-relend-prefix-gather
+slice-relend-prefix-gather c = places-fit (c .before .before .before .before .pre)
+
+slice-aggregate-gather : tie.Need-slice-aggregate-gather
+slice-aggregate-gather c = sym (length-take-le _ _ (places-fit (c .before .before .before .before .before .pre)))
+
 gather-requires : tie.Need-gather-requires
-gather-requires c κs = let h = c .before .before .before .before .before .pre in (h .places, places-fit h)
+gather-requires c κs = front-chosen (c .before .before .before .before .before .pre)
 
 place-rest-requires : tie.Need-place-rest-requires
 place-rest-requires c κs =
     let g = c .before .before .before .gather in
-    (arrangeable-still (c .before .before .before .before .before .before .before .before .before .pre) (g .kept .1 .1 .0), g .ensures)
+    let h = c .before .before .before .before .before .before .before .before .before .pre in
+    (front-arrangeable h (g .last .1 .1 .0) (g .kept .1 .1 .0), front-gathered h (g .ensures))
 
 same-length : tie.Need-same-length
 same-length c = search needs
@@ -19,4 +28,4 @@ returns : tie.Need-returns
 returns c = search needs
 
 pub arrange-spec : {M : Type 1} → statement M
-arrange-spec = tie.close (tie.spec gather-requires place-rest-requires same-length returns)
+arrange-spec = tie.close (tie.spec slice-relend-prefix-gather slice-aggregate-gather gather-requires place-rest-requires same-length returns)

@@ -3,7 +3,7 @@ use Prim.Native.Nat.{_≤_, _-_}
 use mathlib.Core.Path.{_≡_, refl, sym, _∙_, ap}
 use mathlib.Core.List.{[]}
 use native.Mathlib.Omega.{arith}
-use lib.ListN.{length, take, length-set}
+use lib.ListN.{length, getD, take, length-set}
 use lib.Seq.{take-all}
 use Rattle.basics.specs.Lists.{table}
 use Rattle.generator.specs.Arranged.{freeAt}
@@ -26,19 +26,20 @@ loop-holds c =
     let t = c .before .before .fill-ones in
     (omega arith, refl, t .ensures ∙ ap (table (freeAt [])) (sym (t .kept .0)))
 
-mul-place : tie.Need-mul-place Inv-loop μ-loop
-mul-place c = search needs
-
-shared-slice-read-place : tie.Need-shared-slice-read-place Inv-loop μ-loop
-shared-slice-read-place c = search needs
+chosen-place-requires : tie.Need-chosen-place-requires Inv-loop μ-loop
+chosen-place-requires c κs = search needs
 
 index-of-requires : tie.Need-index-of-requires Inv-loop μ-loop
-index-of-requires c κs = c .before .before .before .before .before .before .before .before .before .pre .0 (c .before .before .loop .j) (c .before .loop-test .taken) .0
+index-of-requires c κs =
+    let loop = c .before .before in
+    let entry = loop .before .before .before .before .before .before .before in
+    omega (arith, c .chosen-place .ensures, entry .pre .0 (loop .loop .j) (c .before .loop-test .taken))
 
 slice-write-free : tie.Need-slice-write-free Inv-loop μ-loop
 slice-write-free c =
-    let s = c .before .before .before .before .before .before .before .before .before .before in
-    omega (arith, c .index-of .ensures, s .pre .0 (c .before .before .before .loop .j) (c .before .before .loop-test .taken), c .before .before .before .loop .inv .1, c .before .before .before .before .before .before .fill-ones .kept .0)
+    let loop = c .before .before .before in
+    let entry = loop .before .before .before .before .before .before .before in
+    omega (arith, c .index-of .ensures, c .before .chosen-place .ensures, entry .pre .0 (loop .loop .j) (c .before .before .loop-test .taken), loop .loop .inv .1, loop .before .before .before .fill-ones .kept .0)
 
 add-j : tie.Need-add-j Inv-loop μ-loop
 add-j c = search needs
@@ -48,11 +49,12 @@ loop-less c = search needs
 
 loop-again : tie.Need-loop-again Inv-loop μ-loop
 loop-again c =
-    let at = c .before .before .before .loop in
-    let t = c .before .before .before .before .before .before .fill-ones in
-    let s = c .before .before .before .before .before .before .before .before .before .before in
-    let places = rw (← t .kept .0) at (s .pre .0) in
-    (omega arith, simp length-set (at .inv .1), rw (c .index-of .ensures) (free-turn (s .args .places .now) _ (at .j) places (c .before .before .loop-test .taken) (at .inv .2)))
+    let loop = c .before .before .before in
+    let entry = loop .before .before .before .before .before .before .before in
+    let at = loop .loop in
+    let places = rw (← loop .before .before .before .fill-ones .kept .0) at (entry .pre .0) in
+    let index : c .index-of .result ≡ getD (entry .args .places .now) (at .j) 0 - 1 = c .index-of .ensures ∙ ap (λ p. p - 1) (c .before .chosen-place .ensures) in
+    (omega arith, simp length-set (at .inv .1), rw index (free-turn (entry .args .places .now) _ (at .j) places (c .before .before .loop-test .taken) (at .inv .2)))
 
 same-length : tie.Need-same-length Inv-loop μ-loop
 same-length c = c .before .loop .inv .1 ∙ c .before .before .before .before .fill-ones .kept .0
@@ -72,8 +74,7 @@ mark-spec =
     μ-loop
     fill-ones-requires
     loop-holds
-    mul-place
-    shared-slice-read-place
+    chosen-place-requires
     index-of-requires
     slice-write-free
     add-j

@@ -38,7 +38,7 @@ returns c =
     let s = c .before .before .before .before .before .before .before .before .before .before .before in
     let a = s .args in
     let t = c .before .before .before .take-multiples .ensures in
-    rows-raised (a .m) (a .i) (a .rc) (a .t) (a .xs .now) (a .a .now) (a .b .now) (s .pre .1 .0) (c .before .before .before .before .before .before .inverse .ensures) (t .0) (t .1) (c .find-over .ensures)
+    rows-raised (a .m) (a .index .0) (a .rc) (a .t) (a .xs .now) (a .a .now) (a .b .now) (s .pre .1 .0) (c .before .before .before .before .before .before .inverse .ensures) (t .0) (t .1) (c .find-over .ensures)
 
 pub raise-rows-spec : {M : Type 1} → statement M
 raise-rows-spec =

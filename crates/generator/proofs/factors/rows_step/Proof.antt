@@ -30,7 +30,7 @@ returns : tie.Need-returns
 returns c =
     let s = c .before .before .before .before .before .before .before .before .before .before .before .before .before .before .before .before .before .before .before .before .before in
     let p = c .before .before .before .before .pair-step .ensures in
-    (p .0, rows-both (s .pre .0 .field) (s .args .i) _ _ _ _ _ (p .1) (c .before .before .before .before .before .before .before .before .before .before .before .raise-either .ensures))
+    (p .0, rows-both (s .pre .0 .field) (s .args .index .0) _ _ _ _ _ (p .1) (c .before .before .before .before .before .before .before .before .before .before .before .raise-either .ensures))
 
 pub rows-step-spec : {M : Type 1} → statement M
 rows-step-spec =

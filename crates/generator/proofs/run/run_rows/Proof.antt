@@ -23,54 +23,65 @@ abbrev μ-loop : tie.MeasureT-loop
 fill-ones-requires : tie.Need-fill-ones-requires Inv-loop μ-loop
 fill-ones-requires c κs = search needs
 
+first-sizes-requires : tie.Need-first-sizes-requires Inv-loop μ-loop
+first-sizes-requires c κs = search needs
+
 sub-last : tie.Need-sub-last Inv-loop μ-loop
-sub-last c = omega (arith, c .before .before .before .before .before .before .before .before .before .pre .1 .0 .3)
+sub-last c = omega (arith, c .before .before .before .before .before .before .before .before .before .before .pre .1 .0 .3)
 
 loop-holds : tie.Need-loop-holds Inv-loop μ-loop
 unfolding after
 loop-holds c =
-    let s = c .before .before .before .before .before .before .before .before .before in
-    let c0 = s .pre .1 .0 .0 in
-    let p = begins (s .pre .0 .field) c0 refl refl refl (c .before .before .fill-ones .ensures ∙ ap (table one) (s .pre .1 .0 .1 ∙ sym (c0 .as-many))) refl in
-    (p .low-values .size, p .high-values .size, refl, refl, omega arith, p, record { row = λ j l. absurd (omega arith); whole = λ l. absurd (omega arith) })
+    let ones = c .before .before .before in
+    let entry = ones .before .before .before .before .before .before .before in
+    let n = c .first-sizes .ensures in
+    let c0 = entry .pre .1 .0 .0 in
+    let p = begins (entry .pre .0 .field) c0 (n .0) (n .1) (n .2) (ones .fill-ones .ensures ∙ ap (table one) (entry .pre .1 .0 .1 ∙ sym (c0 .as-many))) refl in
+    (ones .fill-ones .kept .0 ∙ entry .pre .1 .0 .1, c0 .as-many, refl, refl, omega arith, p, record { row = λ j l. absurd (omega arith); whole = λ l. absurd (omega arith) })
 
 rows-turn-requires : tie.Need-rows-turn-requires Inv-loop μ-loop
 rows-turn-requires c κs =
-    let s = c .before .before .before .before .before .before .before .before .before .before .before .before .before .before .before in
-    let v = c .before .before .before .before .before .loop .inv in
-    (s .pre .0, (fits (v .0) (v .1) (s .pre .1 .1 .0 .small (c .before .before .before .before .before .loop .i) (omega (arith, c .before .before .before .before .loop-test .taken))) (v .5), rows-sized (omega (arith, c .before .before .before .before .loop-test .taken)) (v .2) (v .3) (s .pre .1 .0 .2), s .pre .1 .0 .4))
+    let loop = c .before .before .before .before .before in
+    let entry = loop .before .before .before .before .before .before .before .before .before .before .before in
+    let v = loop .loop .inv in
+    let t = c .before .before .before .before .loop-test .taken in
+    (entry .pre .0, (fits (v .0) (v .1) (entry .pre .1 .1 .0 .small (loop .loop .i) (omega (arith, t))) (v .5), rows-sized (omega (arith, t)) (v .2) (v .3) (entry .pre .1 .0 .2), entry .pre .1 .0 .4))
 
 add-i : tie.Need-add-i Inv-loop μ-loop
-add-i c = let p = c .before .before .before .before .before .before .before .before .before .before .before .before .before .before .before .before .before .before .before .before .before .before .before .before .pre .1 .0 in record { fits = omega (arith, c .before .before .before .before .before .before .before .before .before .before .before .before .before .loop-test .taken, p .2 .points, p .4) }
+add-i c =
+    let loop = c .before .before .before .before .before .before .before .before .before .before .before .before .before .before in
+    let p = loop .before .before .before .before .before .before .before .before .before .before .before .pre .1 .0 in
+    record { fits = omega (arith, c .before .before .before .before .before .before .before .before .before .before .before .before .before .loop-test .taken, p .2 .points, p .4) }
 
 loop-less : tie.Need-loop-less Inv-loop μ-loop
 loop-less c = search needs
 
 loop-again : tie.Need-loop-again Inv-loop μ-loop
 loop-again c =
-    let s = c .before .before .before .before .before .before .before .before .before .before .before .before .before .before .before .before .before .before .before .before .before .before .before .before in
-    let g = s .args in
-    let at = c .before .before .before .before .before .before .before .before .before .before .before .before .before .before .loop in
+    let loop = c .before .before .before .before .before .before .before .before .before .before .before .before .before .before in
+    let entry = loop .before .before .before .before .before .before .before .before .before .before .before in
+    let g = entry .args in
+    let at = loop .loop in
     let v = at .inv in
     let t = c .before .before .before .before .before .before .before .before .before .before .before .before .before .loop-test .taken in
     let r = c .before .before .before .before .before .before .before .before .rows-turn .ensures in
     let ys = g .u .now in
-    let inside : at .i < length (g .xs .now) = omega (arith, s .pre .1 .0 .2 .points) in
-    let pair = r .0 .next ys (at .i) _ 0 (omega arith) (omega arith) (s .pre .1 .1 .0 .small (at .i) (omega arith)) (v .5) in (
+    let inside : at .i < length (g .xs .now) = omega (arith, entry .pre .1 .0 .2 .points) in
+    let pair = r .0 .next ys (at .i) _ 0 (omega arith) (omega arith) (entry .pre .1 .1 .0 .small (at .i) (omega arith)) (v .5) in (
       r .0 .first-size,
       r .0 .second-size,
       r .1 .first-size ∙ v .2,
       r .1 .second-size ∙ v .3,
       omega arith,
       rw (first-more (g .m) (g .xs .now) ys (at .i) inside) at pair,
-      rows-next (s .pre .0 .field) (g .xs .now) ys (g .count) (at .i) (omega arith) inside (s .pre .1 .1 .1) (at .l) (at .u) (at .n) (v .5) (v .6) (r .1),
+      rows-next (entry .pre .0 .field) (g .xs .now) ys (g .count) (at .i) (omega arith) inside (entry .pre .1 .1 .1) (at .l) (at .u) (at .n) (v .5) (v .6) (r .1),
     )
 
 same-length : tie.Need-same-length Inv-loop μ-loop
-same-length c = c .before .loop .inv .0 ∙ sym (c .before .before .before .before .before .before .before .before .before .before .before .pre .1 .0 .1)
+same-length c = c .before .loop .inv .0 ∙ sym (c .before .before .before .before .before .before .before .before .before .before .before .before .pre .1 .0 .1)
 
 same-length-2 : tie.Need-same-length-2 Inv-loop μ-loop
-same-length-2 c = c .before .loop .inv .1 ∙ sym (c .before .before .before .before .before .before .before .before .before .before .before .pre .1 .0 .0 .as-many)
+same-length-2 c = c .before .loop .inv .1 ∙ sym (c .before .before .before .before .before .before .before .before .before .before .before .before .pre .1 .0 .0 .as-many)
 
 same-length-3 : tie.Need-same-length-3 Inv-loop μ-loop
 same-length-3 c = c .before .loop .inv .2
@@ -81,7 +92,7 @@ same-length-4 c = c .before .loop .inv .3
 returns : tie.Need-returns Inv-loop μ-loop
 returns c =
     let at = c .before .loop in
-    let full : at .i ≡ c .before .before .before .before .before .before .before .before .before .before .before .args .count - 1 = omega arith in
+    let full : at .i ≡ c .before .before .before .before .before .before .before .before .before .before .before .before .args .count - 1 = omega arith in
     rw (← full) (at .inv .5, at .inv .6)
 
 pub run-rows-spec : {M : Type 1} → statement M
@@ -91,6 +102,7 @@ run-rows-spec =
     Inv-loop
     μ-loop
     fill-ones-requires
+    first-sizes-requires
     sub-last
     loop-holds
     rows-turn-requires

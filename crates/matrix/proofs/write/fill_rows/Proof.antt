@@ -1,6 +1,6 @@
 -- The loop's invariant: the symbols of the first i rows stand in the buffer.
 use mathlib.Core.Path.{_≡_, refl, _∙_}
-use Prim.Native.Nat.{ℕ, _+_, _*_, _-_, _<_, _≤_}
+use Prim.Native.Nat.{_+_, _*_, _-_, _≤_}
 use native.Mathlib.Nat.{zero-mul}
 use native.Mathlib.Omega.{arith}
 use borrow.Rule.Slice.PartMut.{same-len-mid}
@@ -9,7 +9,7 @@ use Rattle.basics.specs.Lists.{table}
 use Rattle.coder.specs.Outcomes.{joined}
 use Rattle.matrix.specs.Given.{rowAt}
 use Rattle.matrix.proofs.Marks.{marks-size, marks-rest}
-use Rattle.matrix.proofs.Joined.{row-fits, row-length, rows-small, rows-more, rows-all}
+use Rattle.matrix.proofs.Joined.{row-fits, row-length, place-inside, rows-small, rows-more, rows-all}
 use borrow.Author.Needs.{needs}
 use Rattle.matrix.proofs.write.fill_rows.Statement.{statement}
 use Rattle.matrix.proofs.write.fill_rows.Tie as tie
@@ -20,31 +20,31 @@ Inv-loop m powers logs k places free px l u a b out₀ n i₀ out i = (i ≤ k) 
 abbrev μ-loop : tie.MeasureT-loop
 μ-loop m powers logs k places free px l u a b out₀ n i₀ out i = k - i
 
+abbrev entry : tie.In-loop Inv-loop μ-loop → tie.Start Inv-loop μ-loop
+entry c = c .before .before .before .before .before .before .before .before .before .before
+
 -- where row i ends is within the buffer, which is small
-room : (s : tie.Start Inv-loop μ-loop) (i : ℕ) → i < s .args .k → let n = length (s .args .px .now) in (i * n + n ≤ s .args .k * n) × (s .args .k * n ≤ 82944)
-room s i h = let f = s .pre .1 .0 in (row-fits (s .args .k) (length (s .args .px .now)) i h, rows-small (omega (arith, f .lists .points, f .most)) (f .most))
+room : (c : tie.In-loop Inv-loop μ-loop) → let n = length (entry c .args .px .now) in (c .before .loop .i * n + n ≤ entry c .args .k * n) × (entry c .args .k * n ≤ 82944)
+room c =
+    let g = entry c .args in
+    let f = entry c .pre .1 .0 in
+    (row-fits (g .k) (length (g .px .now)) (c .before .loop .i) (c .loop-test .taken), rows-small (omega (arith, f .lists .points, f .most)) (f .most))
 
 -- so that its part can be lent
-part : (c : tie.In-loop Inv-loop μ-loop) → let n = length (c .before .before .before .before .before .before .before .before .before .before .args .px .now) in c .before .loop .i * n + n ≤ length (c .before .loop .out)
-part c = let s = c .before .before .before .before .before .before .before .before .before .before in omega (arith, room s (c .before .loop .i) (c .loop-test .taken), c .before .loop .inv .1, s .pre .1 .0 .room)
+part : (c : tie.In-loop Inv-loop μ-loop) → c .before .loop .i * length (entry c .args .px .now) + length (entry c .args .px .now) ≤ length (c .before .loop .out)
+part c = omega (arith, room c, c .before .loop .inv .1, entry c .pre .1 .0 .room)
 
 loop-holds : tie.Need-loop-holds Inv-loop μ-loop
 loop-holds c = (omega arith, refl, rw zero-mul)
 
-mul-place : tie.Need-mul-place Inv-loop μ-loop
-mul-place c = search needs
-
-shared-slice-read-place : tie.Need-shared-slice-read-place Inv-loop μ-loop
-shared-slice-read-place c = omega (arith, c .before .loop-test .taken, c .before .before .before .before .before .before .before .before .before .before .before .pre .1 .0 .full)
-
-index-of-requires : tie.Need-index-of-requires Inv-loop μ-loop
-index-of-requires c κs = let f = c .before .before .before .before .before .before .before .before .before .before .before .pre .1 .0 in f .places (c .before .before .loop .i) (omega (arith, c .before .loop-test .taken, f .full)) .0
+chosen-place-requires : tie.Need-chosen-place-requires Inv-loop μ-loop
+chosen-place-requires c κs = omega (arith, c .loop-test .taken, entry c .pre .1 .0 .full)
 
 mul-start : tie.Need-mul-start Inv-loop μ-loop
-mul-start c = let (a, b) = room (c .before .before .before .before .before .before .before .before .before .before .before .before) (c .before .before .before .loop .i) (c .before .before .loop-test .taken) in omega (arith, a, b)
+mul-start c = omega (arith, room (c .before))
 
 add-end : tie.Need-add-end Inv-loop μ-loop
-add-end c = let (a, b) = room (c .before .before .before .before .before .before .before .before .before .before .before .before) (c .before .before .before .loop .i) (c .before .before .loop-test .taken) in omega (arith, a, b)
+add-end c = omega (arith, room (c .before))
 
 sub-row : tie.Need-sub-row Inv-loop μ-loop
 sub-row c = omega arith
@@ -53,34 +53,53 @@ part-row-start : tie.Need-part-row-start Inv-loop μ-loop
 part-row-start c = omega arith
 
 part-row-end : tie.Need-part-row-end Inv-loop μ-loop
-part-row-end c = part (c .before .before)
+part-row-end c = omega (arith, part (c .before))
 
 fill-row-requires : tie.Need-fill-row-requires Inv-loop μ-loop
 fill-row-requires c κs =
-    let s = c .before .before .before .before .before .before .before .before .before .before .before .before .before in
+    let turn = c .before .before in
+    let s = entry turn in
+    let g = s .args in
     let f = s .pre .1 .0 in
-    let i = c .before .before .before .before .loop .i in
-    let size = row-length (length (s .args .px .now)) i (c .before .before .before .before .loop .out) (part (c .before .before .before)) in
-    (s .pre .0, ((f .lists, f .lows, f .highs, f .most), (omega (arith, c .before .before .before .loop-test .taken), omega (arith, size, c .before .index-of .ensures, f .places i (omega (arith, c .before .before .before .loop-test .taken, f .full))), size, marks-size (s .args .places .now) (s .args .px .now) (s .pre .1 .1), marks-rest (s .args .places .now) (s .args .px .now) (s .pre .1 .1) f)))
+    let n = length (g .px .now) in
+    let out = turn .before .loop .out in
+    let own = f .places (turn .before .loop .i) (omega (arith, turn .loop-test .taken, f .full)) in
+    let is = c .before .chosen-place .ensures in (
+      s .pre .0,
+      (
+        (f .lists, f .lows, f .highs, f .most),
+        (
+          omega (arith, turn .loop-test .taken),
+          omega (arith, is, own .0),
+          place-inside n _ _ out (omega (arith, part turn)) (omega (arith, is, own .1)),
+          row-length n _ out (omega (arith, part turn)),
+          marks-size (g .places .now) (g .px .now) (s .pre .1 .1),
+          marks-rest (g .places .now) (g .px .now) (s .pre .1 .1) f,
+        ),
+      ),
+    )
 
 add-i : tie.Need-add-i Inv-loop μ-loop
-add-i c = let f = c .before .before .before .before .before .before .before .before .before .before .before .before .before .before .before .before .pre .1 .0 in record { fits = omega (arith, c .before .before .before .before .before .before .loop-test .taken, f .lists .points, f .most) }
+add-i c =
+    let turn = c .before .before .before .before .before in
+    let f = entry turn .pre .1 .0 in
+    record { fits = omega (arith, turn .loop-test .taken, f .lists .points, f .most) }
 
 loop-less : tie.Need-loop-less Inv-loop μ-loop
 loop-less c = search needs
 
 loop-again : tie.Need-loop-again Inv-loop μ-loop
 loop-again c =
-    let s = c .before .before .before .before .before .before .before .before .before .before .before .before .before .before .before .before in
+    let turn = c .before .before .before .before .before in
+    let s = entry turn in
     let a = s .args in
-    let at = c .before .before .before .before .before .before in
+    let at = turn .before .loop in
     let n = length (a .px .now) in
-    let i = at .before .loop .i in
-    let out = at .before .loop .out in
     let r = c .before .before .fill-row in
+    let kept = r .kept .1 .1 .1 .1 .1 .1 .1 .1 .1 .1 .1 .1 .0 in
     let R = rowAt (a .m) (a .k) (a .places .now) (a .px .now) (a .l .now) (a .u .now) (a .a .now) (a .b .now) in
-    let entries = rw (c .before .before .before .before .index-of .ensures) at (rw (s .pre .1 .1) at (r .ensures)) in
-    (omega (arith, at .loop-test .taken), same-len-mid (i * n) (i * n + n - i * n) out (r .last .1 .1 .1 .1 .1 .1 .1 .1 .1 .1 .1 .1 .0) (r .kept .1 .1 .1 .1 .1 .1 .1 .1 .1 .1 .1 .1 .0) ∙ at .before .loop .inv .1, rows-more R n i out _ (part at) (at .before .loop .inv .2) (r .kept .1 .1 .1 .1 .1 .1 .1 .1 .1 .1 .1 .1 .0) entries)
+    let entries = rw (c .before .before .before .before .chosen-place .ensures) at (rw (s .pre .1 .1) at (r .ensures)) in
+    (omega (arith, turn .loop-test .taken), same-len-mid (at .i * n) (at .i * n + n - at .i * n) (at .out) (r .last .1 .1 .1 .1 .1 .1 .1 .1 .1 .1 .1 .1 .0) kept ∙ at .inv .1, rows-more R n (at .i) (at .out) _ (part turn) (at .inv .2) kept entries)
 
 same-length : tie.Need-same-length Inv-loop μ-loop
 same-length c = c .before .loop .inv .1
@@ -100,9 +119,7 @@ fill-rows-spec =
     Inv-loop
     μ-loop
     loop-holds
-    mul-place
-    shared-slice-read-place
-    index-of-requires
+    chosen-place-requires
     mul-start
     add-end
     sub-row
