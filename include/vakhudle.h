@@ -41,10 +41,26 @@ int32_t vakhudle_products(uint8_t field, const uint8_t *a, size_t a_len, const u
 
 /* All affine points of the curve Y^2 + g1 XY + g3 Y = X^3 + g2 X^2 + g4 X + g6, by X, then Y. Both buffers hold 288 bytes; those past the count
  * keep their values. Returns the count. Refuses 1, 2, 3, 8. */
-int32_t vakhudle_points(uint8_t field, uint8_t g1, uint8_t g2, uint8_t g3, uint8_t g4, uint8_t g6, uint8_t *xs_out, size_t xs_out_len,
-                        uint8_t *ys_out, size_t ys_out_len);
+int32_t vakhudle_points(uint8_t field, uint8_t g1, uint8_t g2, uint8_t g3, uint8_t g4, uint8_t g6, uint8_t *xs, size_t xs_len, uint8_t *ys,
+                        size_t ys_len);
 
-/* A code is a field, a curve, the n points of the places 1 to n, and a dimension k. Every function below that takes one tests it first, and
+/* The mean of an hour with fewer than 45 readings. */
+#define VAKHUDLE_ABSENT 32767
+
+/* The means of means_out_len hours, at most 153, from the hour first on. Stamps are minutes, ascending; a reading belongs to hour stamp div 60.
+ * Readings and means are tenths of a degree, -2,000 to 20,000; halves are rounded away from zero. Refuses 8, 19 (first above 71,000,000), 18, 19
+ * (a stamp outside the hours), 16, each sought over the whole list before the next. */
+int32_t vakhudle_means(const uint32_t *stamps, size_t stamps_len, const int16_t *readings, size_t readings_len, uint32_t first,
+                       int16_t *means_out, size_t means_out_len);
+
+/* The least length of the buffer for the answer to a job sheet: no answer is longer. */
+#define VAKHUDLE_SHEET_ROOM 4096
+
+/* The answer to a job sheet, which may be any bytes: its text at the front of out, and its length. A sheet that is refused is answered in the text;
+ * the call refuses 8 alone, an out of less than VAKHUDLE_SHEET_ROOM bytes. */
+int32_t vakhudle_sheet(const uint8_t *text, size_t text_len, uint8_t *out, size_t out_len);
+
+/* A code is a field, a curve, the n points of the places 1 to n, and a dimension k. Every function below takes one, tests it first, and
  * refuses 1, 2, 3, 4, 5, 6, 7 in this order: "code". */
 
 /* The n symbols of the function with these k coefficients, in order of weight: 1, X, Y, X^2, XY, .. Refuses code, 8, 11. */
@@ -58,9 +74,19 @@ int32_t vakhudle_heard(uint8_t field, uint8_t g1, uint8_t g2, uint8_t g3, uint8_
                        const uint8_t *ys, size_t ys_len, size_t k, const uint8_t *mask, size_t mask_len, uint16_t *places_out,
                        size_t places_out_len);
 
-/* The functions from here to vakhudle_rebuild are lent a working space of VAKHUDLE_WORKING_SPACE bytes or more, with any content. After
- * acceptance that many of its bytes are zero and the rest is untouched; a shorter one is refused as 8. A place p is the p-th point, from 1 on;
- * the message symbol at index i belongs to the i-th place of its list. */
+/* Packs k * field div 15 means, 15 bits each, into k symbols. Refuses code, 8, 16 (a mean out of range and not VAKHUDLE_ABSENT). */
+int32_t vakhudle_pack(uint8_t field, uint8_t g1, uint8_t g2, uint8_t g3, uint8_t g4, uint8_t g6, const uint8_t *xs, size_t xs_len,
+                      const uint8_t *ys, size_t ys_len, size_t k, const int16_t *means, size_t means_len, uint8_t *symbols_out,
+                      size_t symbols_out_len);
+
+/* The k * field div 15 means that were packed into k symbols. Refuses code, 8, 11, 17. */
+int32_t vakhudle_unpack(uint8_t field, uint8_t g1, uint8_t g2, uint8_t g3, uint8_t g4, uint8_t g6, const uint8_t *xs, size_t xs_len,
+                        const uint8_t *ys, size_t ys_len, size_t k, const uint8_t *symbols, size_t symbols_len, int16_t *means_out,
+                        size_t means_out_len);
+
+/* The functions from here on are lent a working space of VAKHUDLE_WORKING_SPACE bytes or more, with any content. After acceptance that many of
+ * its bytes are zero and the rest is untouched; a shorter one is refused as 8. A place p is the p-th point, from 1 on; the message symbol at
+ * index i belongs to the i-th place of its list. */
 #define VAKHUDLE_WORKING_SPACE 8192
 
 /* The k coefficients of the codeword with these n symbols. Refuses code, 8, 11, 14. */
@@ -102,32 +128,6 @@ int32_t vakhudle_pick(uint8_t field, uint8_t g1, uint8_t g2, uint8_t g3, uint8_t
 int32_t vakhudle_rebuild(uint8_t field, uint8_t g1, uint8_t g2, uint8_t g3, uint8_t g4, uint8_t g6, const uint8_t *xs, size_t xs_len,
                          const uint8_t *ys, size_t ys_len, size_t k, const uint16_t *places, size_t places_len, const uint8_t *symbols,
                          size_t symbols_len, uint8_t *symbols_out, size_t symbols_out_len, uint8_t *work, size_t work_len);
-
-/* The least length of the buffer for the answer to a job sheet: no answer is longer. */
-#define VAKHUDLE_SHEET_ROOM 4096
-
-/* The answer to a job sheet, which may be any bytes: its text at the front of out, and its length. A sheet that is refused is answered in the text;
- * the call refuses 8 alone, an out of less than VAKHUDLE_SHEET_ROOM bytes. */
-int32_t vakhudle_sheet(const uint8_t *text, size_t text_len, uint8_t *out, size_t out_len);
-
-/* The mean of an hour with fewer than 45 readings. */
-#define VAKHUDLE_ABSENT 32767
-
-/* The means of means_out_len hours, at most 153, from first_hour on. Stamps are minutes, ascending; a reading belongs to hour stamp div 60.
- * Readings and means are tenths of a degree, -2,000 to 20,000; halves are rounded away from zero. Refuses 8, 19 (first_hour above 71,000,000),
- * 18, 19 (a stamp outside the hours), 16, each sought over the whole list before the next. */
-int32_t vakhudle_means(const uint32_t *stamps, size_t stamps_len, const int16_t *readings, size_t readings_len, uint32_t first_hour,
-                       int16_t *means_out, size_t means_out_len);
-
-/* Packs k * field div 15 means, 15 bits each, into k symbols. Refuses code, 8, 16 (a mean out of range and not VAKHUDLE_ABSENT). */
-int32_t vakhudle_pack(uint8_t field, uint8_t g1, uint8_t g2, uint8_t g3, uint8_t g4, uint8_t g6, const uint8_t *xs, size_t xs_len,
-                      const uint8_t *ys, size_t ys_len, size_t k, const int16_t *means, size_t means_len, uint8_t *symbols_out,
-                      size_t symbols_out_len);
-
-/* The k * field div 15 means that were packed into k symbols. Refuses code, 8, 11, 17. */
-int32_t vakhudle_unpack(uint8_t field, uint8_t g1, uint8_t g2, uint8_t g3, uint8_t g4, uint8_t g6, const uint8_t *xs, size_t xs_len,
-                        const uint8_t *ys, size_t ys_len, size_t k, const uint8_t *symbols, size_t symbols_len, int16_t *means_out,
-                        size_t means_out_len);
 
 #ifdef __cplusplus
 }

@@ -1,45 +1,51 @@
 //! The C interface, as include/vakhudle.h has it.
 
 extern "C" {
-    pub fn vakhudle_sheet(text: *const u8, text_len: usize, out: *mut u8, out_len: usize) -> i32;
     pub fn vakhudle_products(field: u8, a: *const u8, a_len: usize, b: *const u8, b_len: usize, out: *mut u8, out_len: usize) -> i32;
+
+    pub fn vakhudle_points(
+        field: u8,
+        g1: u8,
+        g2: u8,
+        g3: u8,
+        g4: u8,
+        g6: u8,
+        xs: *mut u8,
+        xs_len: usize,
+        ys: *mut u8,
+        ys_len: usize,
+    ) -> i32;
 
     pub fn vakhudle_means(
         stamps: *const u32,
         stamps_len: usize,
         readings: *const i16,
         readings_len: usize,
-        first_hour: u32,
+        first: u32,
         means_out: *mut i16,
         means_out_len: usize,
     ) -> i32;
+
+    pub fn vakhudle_sheet(text: *const u8, text_len: usize, out: *mut u8, out_len: usize) -> i32;
 }
 
-/// Declares operations over a curve: each takes the curve, what it names before the semicolon, and then pointers to lists, each with its length behind it.
-macro_rules! over_curve {
-    ($($name:ident($($value:ident: $type:ty),*; $($list:ident: $pointer:ty),+);)+) => {
-        extern "C" {
-            $(pub fn $name(field: u8, g1: u8, g2: u8, g3: u8, g4: u8, g6: u8, $($value: $type,)* $($list: $pointer, _: usize),+) -> i32;)+
-        }
-    };
-}
-
-/// The same over a code.
+/// Declares operations over a code: each takes the code, and then pointers to lists, each with its length behind it.
 macro_rules! over_code {
     ($($name:ident($($list:ident: $pointer:ty),+);)+) => {
-        over_curve! {
-            $($name(xs: *const u8, xs_len: usize, ys: *const u8, ys_len: usize, k: usize; $($list: $pointer),+);)+
+        extern "C" {
+            $(pub fn $name(
+                field: u8, g1: u8, g2: u8, g3: u8, g4: u8, g6: u8, xs: *const u8, xs_len: usize, ys: *const u8, ys_len: usize, k: usize,
+                $($list: $pointer, _: usize),+
+            ) -> i32;)+
         }
     };
-}
-
-over_curve! {
-    vakhudle_points(; xs_out: *mut u8, ys_out: *mut u8);
 }
 
 over_code! {
     vakhudle_plain(coefficients: *const u8, symbols_out: *mut u8);
     vakhudle_heard(mask: *const u8, places_out: *mut u16);
+    vakhudle_pack(means: *const i16, symbols_out: *mut u8);
+    vakhudle_unpack(symbols: *const u8, means_out: *mut i16);
     vakhudle_recover(symbols: *const u8, coefficients_out: *mut u8, work: *mut u8);
     vakhudle_systematic_function(places: *const u16, message: *const u8, coefficients_out: *mut u8, work: *mut u8);
     vakhudle_systematic_word(places: *const u16, message: *const u8, symbols_out: *mut u8, work: *mut u8);
@@ -47,6 +53,4 @@ over_code! {
     vakhudle_relation(places: *const u16, coefficients_out: *mut u8, work: *mut u8);
     vakhudle_pick(ranked: *const u16, places_out: *mut u16, work: *mut u8);
     vakhudle_rebuild(places: *const u16, symbols: *const u8, symbols_out: *mut u8, work: *mut u8);
-    vakhudle_pack(means: *const i16, symbols_out: *mut u8);
-    vakhudle_unpack(symbols: *const u8, means_out: *mut i16);
 }

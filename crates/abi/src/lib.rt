@@ -2,7 +2,6 @@
 // number where it is refused. A slice is a pointer and a length. Each export calls the operation of the same name.
 ghost use mathlib.Core.Path.{_≡_};
 ghost use lib.ListN.{length};
-ghost use Rattle.codewords.specs.Code.{codeOf};
 ghost use Rattle.basics.specs.Outcome.{Reports};
 ghost use Rattle.field.specs.Products.{productsOutcome};
 ghost use Rattle.curve.specs.Points.{pointsOutcome};
@@ -11,7 +10,7 @@ ghost use Rattle.blocks.specs.Outcomes.{plainOutcome, packBlockOutcome, unpackB
 ghost use Rattle.coder.specs.Outcomes.{recoverOutcome, systematicFunctionOutcome, systematicWordOutcome, matrixOutcome, relationOutcome, pickOutcome, rebuildOutcome};
 ghost use Rattle.hours.specs.Means.{meansOutcome};
 ghost use Rattle.sheet.specs.Job.{sheetOutcome};
-ghost use Rattle.abi.specs.Arguments.{curveOf, parametersOf};
+ghost use Rattle.abi.specs.Arguments.{curveOf, parametersOf, codeFrom};
 use basics::status;
 use codewords::Parameters;
 use elliptic::Curve;
@@ -42,6 +41,27 @@ pub extern "C" fn vakhudle_points(
     status(curve::points(field, Curve { g1, g2, g3, g4, g6 }, xs, ys))
 }
 
+// Means.
+#[no_mangle]
+pub extern "C" fn vakhudle_means(
+    stamps: &[u32],
+    readings: &[i16],
+    first: u32,
+    out: &mut [i16],
+) -> i32
+    ensures { λ r. ⌜ Reports (meansOutcome (now (stamps .entry)) (now (readings .entry)) first (length (now (out .entry)))) r (now (out .entry)) (now (out .exit)) ⌝ }
+{
+    status(hours::means::means(stamps, readings, first, out))
+}
+
+// The answer to a job sheet.
+#[no_mangle]
+pub extern "C" fn vakhudle_sheet(text: &[u8], out: &mut [u8]) -> i32
+    ensures { λ r. ⌜ Reports (sheetOutcome (now (text .entry)) (now (out .entry))) r (now (out .entry)) (now (out .exit)) ⌝ }
+{
+    status(sheet::answer::answer_sheet(text, out))
+}
+
 // The parts of a code but its coordinate lists.
 fn parameters(field: u8, g1: u8, g2: u8, g3: u8, g4: u8, g6: u8, k: usize) -> Parameters
     ensures { λ r. ⌜ r ≡ parametersOf field g1 g2 g3 g4 g6 k ⌝ }
@@ -65,7 +85,7 @@ pub extern "C" fn vakhudle_plain(
     coefficients: &[u8],
     out: &mut [u8],
 ) -> i32
-    ensures { λ r. ⌜ Reports (plainOutcome (codeOf (parametersOf field g1 g2 g3 g4 g6 k) (now (xs .entry)) (now (ys .entry))) (now (coefficients .entry)) (length (now (out .entry)))) r (now (out .entry)) (now (out .exit)) ⌝ }
+    ensures { λ r. ⌜ Reports (plainOutcome (codeFrom field g1 g2 g3 g4 g6 k (now (xs .entry)) (now (ys .entry))) (now (coefficients .entry)) (length (now (out .entry)))) r (now (out .entry)) (now (out .exit)) ⌝ }
 {
     let parts = parameters(field, g1, g2, g3, g4, g6, k);
     status(blocks::plain::plain(parts, xs, ys, coefficients, out))
@@ -86,23 +106,10 @@ pub extern "C" fn vakhudle_heard(
     mask: &[u8],
     out: &mut [u16],
 ) -> i32
-    ensures { λ r. ⌜ Reports (heardOutcome (codeOf (parametersOf field g1 g2 g3 g4 g6 k) (now (xs .entry)) (now (ys .entry))) (now (mask .entry)) (now (out .entry))) r (now (out .entry)) (now (out .exit)) ⌝ }
+    ensures { λ r. ⌜ Reports (heardOutcome (codeFrom field g1 g2 g3 g4 g6 k (now (xs .entry)) (now (ys .entry))) (now (mask .entry)) (now (out .entry))) r (now (out .entry)) (now (out .exit)) ⌝ }
 {
     let parts = parameters(field, g1, g2, g3, g4, g6, k);
     status(code::heard::heard(parts, xs, ys, mask, out))
-}
-
-// Means.
-#[no_mangle]
-pub extern "C" fn vakhudle_means(
-    stamps: &[u32],
-    readings: &[i16],
-    first: u32,
-    out: &mut [i16],
-) -> i32
-    ensures { λ r. ⌜ Reports (meansOutcome (now (stamps .entry)) (now (readings .entry)) first (length (now (out .entry)))) r (now (out .entry)) (now (out .exit)) ⌝ }
-{
-    status(hours::means::means(stamps, readings, first, out))
 }
 
 // Pack.
@@ -120,7 +127,7 @@ pub extern "C" fn vakhudle_pack(
     means: &[i16],
     out: &mut [u8],
 ) -> i32
-    ensures { λ r. ⌜ Reports (packBlockOutcome (codeOf (parametersOf field g1 g2 g3 g4 g6 k) (now (xs .entry)) (now (ys .entry))) (now (means .entry)) (length (now (out .entry)))) r (now (out .entry)) (now (out .exit)) ⌝ }
+    ensures { λ r. ⌜ Reports (packBlockOutcome (codeFrom field g1 g2 g3 g4 g6 k (now (xs .entry)) (now (ys .entry))) (now (means .entry)) (length (now (out .entry)))) r (now (out .entry)) (now (out .exit)) ⌝ }
 {
     let parts = parameters(field, g1, g2, g3, g4, g6, k);
     status(blocks::packing::pack(parts, xs, ys, means, out))
@@ -138,13 +145,13 @@ pub extern "C" fn vakhudle_unpack(
     xs: &[u8],
     ys: &[u8],
     k: usize,
-    block: &[u8],
+    symbols: &[u8],
     out: &mut [i16],
 ) -> i32
-    ensures { λ r. ⌜ Reports (unpackBlockOutcome (codeOf (parametersOf field g1 g2 g3 g4 g6 k) (now (xs .entry)) (now (ys .entry))) (now (block .entry)) (length (now (out .entry)))) r (now (out .entry)) (now (out .exit)) ⌝ }
+    ensures { λ r. ⌜ Reports (unpackBlockOutcome (codeFrom field g1 g2 g3 g4 g6 k (now (xs .entry)) (now (ys .entry))) (now (symbols .entry)) (length (now (out .entry)))) r (now (out .entry)) (now (out .exit)) ⌝ }
 {
     let parts = parameters(field, g1, g2, g3, g4, g6, k);
-    status(blocks::packing::unpack(parts, xs, ys, block, out))
+    status(blocks::packing::unpack(parts, xs, ys, symbols, out))
 }
 
 // Recover.
@@ -163,7 +170,7 @@ pub extern "C" fn vakhudle_recover(
     out: &mut [u8],
     work: &mut [u8],
 ) -> i32
-    ensures { λ r. ⌜ Reports (recoverOutcome (codeOf (parametersOf field g1 g2 g3 g4 g6 k) (now (xs .entry)) (now (ys .entry))) (now (symbols .entry)) (now (out .entry)) (now (work .entry))) r
+    ensures { λ r. ⌜ Reports (recoverOutcome (codeFrom field g1 g2 g3 g4 g6 k (now (xs .entry)) (now (ys .entry))) (now (symbols .entry)) (now (out .entry)) (now (work .entry))) r
         (now (out .entry), now (work .entry)) (now (out .exit), now (work .exit)) ⌝ }
 {
     let parts = parameters(field, g1, g2, g3, g4, g6, k);
@@ -187,7 +194,7 @@ pub extern "C" fn vakhudle_systematic_function(
     out: &mut [u8],
     work: &mut [u8],
 ) -> i32
-    ensures { λ r. ⌜ Reports (systematicFunctionOutcome (codeOf (parametersOf field g1 g2 g3 g4 g6 k) (now (xs .entry)) (now (ys .entry))) (now (places .entry)) (now (message .entry)) (now (out .entry)) (now (work .entry))) r
+    ensures { λ r. ⌜ Reports (systematicFunctionOutcome (codeFrom field g1 g2 g3 g4 g6 k (now (xs .entry)) (now (ys .entry))) (now (places .entry)) (now (message .entry)) (now (out .entry)) (now (work .entry))) r
         (now (out .entry), now (work .entry)) (now (out .exit), now (work .exit)) ⌝ }
 {
     let parts = parameters(field, g1, g2, g3, g4, g6, k);
@@ -219,7 +226,7 @@ pub extern "C" fn vakhudle_systematic_word(
     out: &mut [u8],
     work: &mut [u8],
 ) -> i32
-    ensures { λ r. ⌜ Reports (systematicWordOutcome (codeOf (parametersOf field g1 g2 g3 g4 g6 k) (now (xs .entry)) (now (ys .entry))) (now (places .entry)) (now (message .entry)) (now (out .entry)) (now (work .entry))) r
+    ensures { λ r. ⌜ Reports (systematicWordOutcome (codeFrom field g1 g2 g3 g4 g6 k (now (xs .entry)) (now (ys .entry))) (now (places .entry)) (now (message .entry)) (now (out .entry)) (now (work .entry))) r
         (now (out .entry), now (work .entry)) (now (out .exit), now (work .exit)) ⌝ }
 {
     let parts = parameters(field, g1, g2, g3, g4, g6, k);
@@ -242,7 +249,7 @@ pub extern "C" fn vakhudle_matrix(
     out: &mut [u8],
     work: &mut [u8],
 ) -> i32
-    ensures { λ r. ⌜ Reports (matrixOutcome (codeOf (parametersOf field g1 g2 g3 g4 g6 k) (now (xs .entry)) (now (ys .entry))) (now (places .entry)) (now (out .entry)) (now (work .entry))) r
+    ensures { λ r. ⌜ Reports (matrixOutcome (codeFrom field g1 g2 g3 g4 g6 k (now (xs .entry)) (now (ys .entry))) (now (places .entry)) (now (out .entry)) (now (work .entry))) r
         (now (out .entry), now (work .entry)) (now (out .exit), now (work .exit)) ⌝ }
 {
     let parts = parameters(field, g1, g2, g3, g4, g6, k);
@@ -265,7 +272,7 @@ pub extern "C" fn vakhudle_relation(
     out: &mut [u8],
     work: &mut [u8],
 ) -> i32
-    ensures { λ r. ⌜ Reports (relationOutcome (codeOf (parametersOf field g1 g2 g3 g4 g6 k) (now (xs .entry)) (now (ys .entry))) (now (places .entry)) (now (out .entry)) (now (work .entry))) r
+    ensures { λ r. ⌜ Reports (relationOutcome (codeFrom field g1 g2 g3 g4 g6 k (now (xs .entry)) (now (ys .entry))) (now (places .entry)) (now (out .entry)) (now (work .entry))) r
         (now (out .entry), now (work .entry)) (now (out .exit), now (work .exit)) ⌝ }
 {
     let parts = parameters(field, g1, g2, g3, g4, g6, k);
@@ -288,7 +295,7 @@ pub extern "C" fn vakhudle_pick(
     out: &mut [u16],
     work: &mut [u8],
 ) -> i32
-    ensures { λ r. ⌜ Reports (pickOutcome (codeOf (parametersOf field g1 g2 g3 g4 g6 k) (now (xs .entry)) (now (ys .entry))) (now (ranked .entry)) (now (out .entry)) (now (work .entry))) r
+    ensures { λ r. ⌜ Reports (pickOutcome (codeFrom field g1 g2 g3 g4 g6 k (now (xs .entry)) (now (ys .entry))) (now (ranked .entry)) (now (out .entry)) (now (work .entry))) r
         (now (out .entry), now (work .entry)) (now (out .exit), now (work .exit)) ⌝ }
 {
     let parts = parameters(field, g1, g2, g3, g4, g6, k);
@@ -312,17 +319,9 @@ pub extern "C" fn vakhudle_rebuild(
     out: &mut [u8],
     work: &mut [u8],
 ) -> i32
-    ensures { λ r. ⌜ Reports (rebuildOutcome (codeOf (parametersOf field g1 g2 g3 g4 g6 k) (now (xs .entry)) (now (ys .entry))) (now (places .entry)) (now (symbols .entry)) (now (out .entry)) (now (work .entry))) r
+    ensures { λ r. ⌜ Reports (rebuildOutcome (codeFrom field g1 g2 g3 g4 g6 k (now (xs .entry)) (now (ys .entry))) (now (places .entry)) (now (symbols .entry)) (now (out .entry)) (now (work .entry))) r
         (now (out .entry), now (work .entry)) (now (out .exit), now (work .exit)) ⌝ }
 {
     let parts = parameters(field, g1, g2, g3, g4, g6, k);
     status(coder::rebuild::rebuild(parts, xs, ys, places, symbols, out, work))
-}
-
-// The answer to a job sheet.
-#[no_mangle]
-pub extern "C" fn vakhudle_sheet(text: &[u8], out: &mut [u8]) -> i32
-    ensures { λ r. ⌜ Reports (sheetOutcome (now (text .entry)) (now (out .entry))) r (now (out .entry)) (now (out .exit)) ⌝ }
-{
-    status(sheet::answer::answer_sheet(text, out))
 }

@@ -34,7 +34,8 @@ fn plain_tested(
     if out.len() != xs.len() {
         return Answer::Refused(Refusal::Length);
     }
-    if !all_below(size(m), coefficients) {
+    let q = size(m);
+    if !all_below(q, coefficients) {
         return Answer::Refused(Refusal::Symbol);
     }
     write_word(m, &powers(m), &logarithms(m), xs, ys, coefficients, out);

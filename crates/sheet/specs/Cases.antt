@@ -1,30 +1,42 @@
 -- Document 01's case, whole, and short sheets that are refused.
-use Prim.Native.Nat.{ℕ}
+use Prim.Native.Nat.{ℕ, _+_}
+use Prim.Native.String.{String}
 use mathlib.Core.Bool.{Bool, true, false}
 use mathlib.Core.Path.{_≡_}
-use mathlib.Core.List.{List, [], _∷_}
-use lib.ListN.{replicate}
+use mathlib.Core.List.{List, [], _∷_, _++_}
+use lib.ListN.{replicate, take, drop}
 use Rattle.basics.specs.Lists.{all}
+use Rattle.text.specs.Text.{bytes}
 use Rattle.text.specs.Reading.{Read, bad, got, Sheet, sheet}
 use Rattle.text.specs.Valid.{sheetText}
 use Rattle.sheet.specs.Job.{answerTo}
 
--- "field=2", "curve=0,0,1,0,0", "dimension=5", "places=1,2,3,5,8", "message=1,0,0,0,0"
+-- a text by its lines
+abbrev pub textOf : List String → List ℕ
+textOf [] = []
+textOf (l ∷ lines) = bytes l ++ textOf lines
+
+-- "Case, whole"
+abbrev pub caseLines : List String
+caseLines =
+    "field=2\n" ∷
+    "curve=0,0,1,0,0\n" ∷
+    "dimension=5\n" ∷
+    "places=1,2,3,5,8\n" ∷
+    "message=1,0,0,0,0\n" ∷
+    []
+
 unfoldable pub caseSheet : List ℕ
-caseSheet =
-    102 ∷ 105 ∷ 101 ∷ 108 ∷ 100 ∷ 61 ∷ 50 ∷ 10 ∷ 99 ∷ 117 ∷ 114 ∷ 118 ∷ 101 ∷ 61 ∷ 48 ∷ 44 ∷ 48 ∷ 44 ∷ 49 ∷ 44 ∷ 48 ∷ 44 ∷ 48 ∷ 10 ∷ 100 ∷ 105 ∷ 109 ∷ 101 ∷ 110 ∷ 115 ∷ 105 ∷ 111 ∷ 110 ∷ 61 ∷ 53 ∷ 10 ∷ 112 ∷ 108 ∷ 97 ∷ 99
-    ∷ 101 ∷ 115 ∷ 61 ∷ 49 ∷ 44 ∷ 50 ∷ 44 ∷ 51 ∷ 44 ∷ 53 ∷ 44 ∷ 56 ∷ 10 ∷ 109 ∷ 101 ∷ 115 ∷ 115 ∷ 97 ∷ 103 ∷ 101 ∷ 61 ∷ 49 ∷ 44 ∷ 48 ∷ 44 ∷ 48 ∷ 44 ∷ 48 ∷ 44 ∷ 48 ∷ 10 ∷ []
+caseSheet = textOf caseLines
 
--- "answer=0", "function=1,0,1,2,3", "word=1,0,0,2,0,0,3,0"
+-- "it writes, whole"
 unfoldable pub caseAnswer : List ℕ
-caseAnswer =
-    97 ∷ 110 ∷ 115 ∷ 119 ∷ 101 ∷ 114 ∷ 61 ∷ 48 ∷ 10 ∷ 102 ∷ 117 ∷ 110 ∷ 99 ∷ 116 ∷ 105 ∷ 111 ∷ 110 ∷ 61 ∷ 49 ∷ 44 ∷ 48 ∷ 44 ∷ 49 ∷ 44 ∷ 50 ∷ 44 ∷ 51 ∷ 10 ∷ 119 ∷ 111 ∷ 114 ∷ 100 ∷ 61 ∷ 49 ∷ 44 ∷ 48 ∷ 44 ∷ 48 ∷ 44 ∷ 50
-    ∷ 44 ∷ 48 ∷ 44 ∷ 48 ∷ 44 ∷ 51 ∷ 44 ∷ 48 ∷ 10 ∷ []
+caseAnswer = textOf ("answer=0\n" ∷ "function=1,0,1,2,3\n" ∷ "word=1,0,0,2,0,0,3,0\n" ∷ [])
 
--- "answer=20"
 unfoldable pub misshapen : List ℕ
-misshapen = 97 ∷ 110 ∷ 115 ∷ 119 ∷ 101 ∷ 114 ∷ 61 ∷ 50 ∷ 48 ∷ 10 ∷ []
+misshapen = bytes "answer=20\n"
 
+-- the numbers of the case
 unfoldable pub caseJob : Sheet
 caseJob =
     record {
@@ -33,29 +45,33 @@ caseJob =
       message = 1 ∷ 0 ∷ 0 ∷ 0 ∷ 0 ∷ [];
     }
 
+-- the case with another text for its i-th line, from 0 on
+abbrev pub butFor : ℕ → String → List ℕ
+butFor i l = textOf (take i caseLines ++ l ∷ drop (i + 1) caseLines)
+
 -- sheets of another shape
 unfoldable pub damaged : List (List ℕ)
 damaged =
     -- a line is missing
-    (102 ∷ 105 ∷ 101 ∷ 108 ∷ 100 ∷ 61 ∷ 50 ∷ 10 ∷ 99 ∷ 117 ∷ 114 ∷ 118 ∷ 101 ∷ 61 ∷ 48 ∷ 44 ∷ 48 ∷ 44 ∷ 49 ∷ 44 ∷ 48 ∷ 44 ∷ 48 ∷ 10 ∷ 112 ∷ 108 ∷ 97 ∷ 99 ∷ 101 ∷ 115 ∷ 61 ∷ 49 ∷ 44 ∷ 50 ∷ 44 ∷ 51 ∷ 44 ∷ 53 ∷ 44 ∷ 56 ∷ 10 ∷ 109 ∷ 101 ∷ 115 ∷ 115 ∷ 97 ∷ 103 ∷ 101 ∷ 61 ∷ 49 ∷ 44 ∷ 48 ∷ 44 ∷ 48 ∷ 44 ∷ 48 ∷ 44 ∷ 48 ∷ 10 ∷ []) ∷
+    butFor 2 "" ∷
     -- a line more
-    (102 ∷ 105 ∷ 101 ∷ 108 ∷ 100 ∷ 61 ∷ 50 ∷ 10 ∷ 99 ∷ 117 ∷ 114 ∷ 118 ∷ 101 ∷ 61 ∷ 48 ∷ 44 ∷ 48 ∷ 44 ∷ 49 ∷ 44 ∷ 48 ∷ 44 ∷ 48 ∷ 10 ∷ 100 ∷ 105 ∷ 109 ∷ 101 ∷ 110 ∷ 115 ∷ 105 ∷ 111 ∷ 110 ∷ 61 ∷ 53 ∷ 10 ∷ 112 ∷ 108 ∷ 97 ∷ 99 ∷ 101 ∷ 115 ∷ 61 ∷ 49 ∷ 44 ∷ 50 ∷ 44 ∷ 51 ∷ 44 ∷ 53 ∷ 44 ∷ 56 ∷ 10 ∷ 109 ∷ 101 ∷ 115 ∷ 115 ∷ 97 ∷ 103 ∷ 101 ∷ 61 ∷ 49 ∷ 44 ∷ 48 ∷ 44 ∷ 48 ∷ 44 ∷ 48 ∷ 44 ∷ 48 ∷ 10 ∷ 109 ∷ 101 ∷ 115 ∷ 115 ∷ 97 ∷ 103 ∷ 101 ∷ 61 ∷ 49 ∷ 44 ∷ 48 ∷ 44 ∷ 48 ∷ 44 ∷ 48 ∷ 44 ∷ 48 ∷ 10 ∷ []) ∷
+    butFor 4 "message=1,0,0,0,0\nmessage=1,0,0,0,0\n" ∷
     -- a space
-    (102 ∷ 105 ∷ 101 ∷ 108 ∷ 100 ∷ 61 ∷ 32 ∷ 50 ∷ 10 ∷ 99 ∷ 117 ∷ 114 ∷ 118 ∷ 101 ∷ 61 ∷ 48 ∷ 44 ∷ 48 ∷ 44 ∷ 49 ∷ 44 ∷ 48 ∷ 44 ∷ 48 ∷ 10 ∷ 100 ∷ 105 ∷ 109 ∷ 101 ∷ 110 ∷ 115 ∷ 105 ∷ 111 ∷ 110 ∷ 61 ∷ 53 ∷ 10 ∷ 112 ∷ 108 ∷ 97 ∷ 99 ∷ 101 ∷ 115 ∷ 61 ∷ 49 ∷ 44 ∷ 50 ∷ 44 ∷ 51 ∷ 44 ∷ 53 ∷ 44 ∷ 56 ∷ 10 ∷ 109 ∷ 101 ∷ 115 ∷ 115 ∷ 97 ∷ 103 ∷ 101 ∷ 61 ∷ 49 ∷ 44 ∷ 48 ∷ 44 ∷ 48 ∷ 44 ∷ 48 ∷ 44 ∷ 48 ∷ 10 ∷ []) ∷
+    butFor 0 "field= 2\n" ∷
     -- a carriage return
-    (102 ∷ 105 ∷ 101 ∷ 108 ∷ 100 ∷ 61 ∷ 50 ∷ 13 ∷ 10 ∷ 99 ∷ 117 ∷ 114 ∷ 118 ∷ 101 ∷ 61 ∷ 48 ∷ 44 ∷ 48 ∷ 44 ∷ 49 ∷ 44 ∷ 48 ∷ 44 ∷ 48 ∷ 10 ∷ 100 ∷ 105 ∷ 109 ∷ 101 ∷ 110 ∷ 115 ∷ 105 ∷ 111 ∷ 110 ∷ 61 ∷ 53 ∷ 10 ∷ 112 ∷ 108 ∷ 97 ∷ 99 ∷ 101 ∷ 115 ∷ 61 ∷ 49 ∷ 44 ∷ 50 ∷ 44 ∷ 51 ∷ 44 ∷ 53 ∷ 44 ∷ 56 ∷ 10 ∷ 109 ∷ 101 ∷ 115 ∷ 115 ∷ 97 ∷ 103 ∷ 101 ∷ 61 ∷ 49 ∷ 44 ∷ 48 ∷ 44 ∷ 48 ∷ 44 ∷ 48 ∷ 44 ∷ 48 ∷ 10 ∷ []) ∷
+    butFor 0 "field=2\r\n" ∷
     -- a sign
-    (102 ∷ 105 ∷ 101 ∷ 108 ∷ 100 ∷ 61 ∷ 43 ∷ 50 ∷ 10 ∷ 99 ∷ 117 ∷ 114 ∷ 118 ∷ 101 ∷ 61 ∷ 48 ∷ 44 ∷ 48 ∷ 44 ∷ 49 ∷ 44 ∷ 48 ∷ 44 ∷ 48 ∷ 10 ∷ 100 ∷ 105 ∷ 109 ∷ 101 ∷ 110 ∷ 115 ∷ 105 ∷ 111 ∷ 110 ∷ 61 ∷ 53 ∷ 10 ∷ 112 ∷ 108 ∷ 97 ∷ 99 ∷ 101 ∷ 115 ∷ 61 ∷ 49 ∷ 44 ∷ 50 ∷ 44 ∷ 51 ∷ 44 ∷ 53 ∷ 44 ∷ 56 ∷ 10 ∷ 109 ∷ 101 ∷ 115 ∷ 115 ∷ 97 ∷ 103 ∷ 101 ∷ 61 ∷ 49 ∷ 44 ∷ 48 ∷ 44 ∷ 48 ∷ 44 ∷ 48 ∷ 44 ∷ 48 ∷ 10 ∷ []) ∷
+    butFor 0 "field=+2\n" ∷
     -- a needless zero
-    (102 ∷ 105 ∷ 101 ∷ 108 ∷ 100 ∷ 61 ∷ 48 ∷ 50 ∷ 10 ∷ 99 ∷ 117 ∷ 114 ∷ 118 ∷ 101 ∷ 61 ∷ 48 ∷ 44 ∷ 48 ∷ 44 ∷ 49 ∷ 44 ∷ 48 ∷ 44 ∷ 48 ∷ 10 ∷ 100 ∷ 105 ∷ 109 ∷ 101 ∷ 110 ∷ 115 ∷ 105 ∷ 111 ∷ 110 ∷ 61 ∷ 53 ∷ 10 ∷ 112 ∷ 108 ∷ 97 ∷ 99 ∷ 101 ∷ 115 ∷ 61 ∷ 49 ∷ 44 ∷ 50 ∷ 44 ∷ 51 ∷ 44 ∷ 53 ∷ 44 ∷ 56 ∷ 10 ∷ 109 ∷ 101 ∷ 115 ∷ 115 ∷ 97 ∷ 103 ∷ 101 ∷ 61 ∷ 49 ∷ 44 ∷ 48 ∷ 44 ∷ 48 ∷ 44 ∷ 48 ∷ 44 ∷ 48 ∷ 10 ∷ []) ∷
-    -- 65,536
-    (102 ∷ 105 ∷ 101 ∷ 108 ∷ 100 ∷ 61 ∷ 50 ∷ 10 ∷ 99 ∷ 117 ∷ 114 ∷ 118 ∷ 101 ∷ 61 ∷ 48 ∷ 44 ∷ 48 ∷ 44 ∷ 49 ∷ 44 ∷ 48 ∷ 44 ∷ 48 ∷ 10 ∷ 100 ∷ 105 ∷ 109 ∷ 101 ∷ 110 ∷ 115 ∷ 105 ∷ 111 ∷ 110 ∷ 61 ∷ 54 ∷ 53 ∷ 53 ∷ 51 ∷ 54 ∷ 10 ∷ 112 ∷ 108 ∷ 97 ∷ 99 ∷ 101 ∷ 115 ∷ 61 ∷ 49 ∷ 44 ∷ 50 ∷ 44 ∷ 51 ∷ 44 ∷ 53 ∷ 44 ∷ 56 ∷ 10 ∷ 109 ∷ 101 ∷ 115 ∷ 115 ∷ 97 ∷ 103 ∷ 101 ∷ 61 ∷ 49 ∷ 44 ∷ 48 ∷ 44 ∷ 48 ∷ 44 ∷ 48 ∷ 44 ∷ 48 ∷ 10 ∷ []) ∷
+    butFor 0 "field=02\n" ∷
+    -- a number that is too large
+    butFor 2 "dimension=65536\n" ∷
     -- an empty list
-    (102 ∷ 105 ∷ 101 ∷ 108 ∷ 100 ∷ 61 ∷ 50 ∷ 10 ∷ 99 ∷ 117 ∷ 114 ∷ 118 ∷ 101 ∷ 61 ∷ 48 ∷ 44 ∷ 48 ∷ 44 ∷ 49 ∷ 44 ∷ 48 ∷ 44 ∷ 48 ∷ 10 ∷ 100 ∷ 105 ∷ 109 ∷ 101 ∷ 110 ∷ 115 ∷ 105 ∷ 111 ∷ 110 ∷ 61 ∷ 53 ∷ 10 ∷ 112 ∷ 108 ∷ 97 ∷ 99 ∷ 101 ∷ 115 ∷ 61 ∷ 49 ∷ 44 ∷ 50 ∷ 44 ∷ 51 ∷ 44 ∷ 53 ∷ 44 ∷ 56 ∷ 10 ∷ 109 ∷ 101 ∷ 115 ∷ 115 ∷ 97 ∷ 103 ∷ 101 ∷ 61 ∷ 10 ∷ []) ∷
+    butFor 4 "message=\n" ∷
     -- four coefficients
-    (102 ∷ 105 ∷ 101 ∷ 108 ∷ 100 ∷ 61 ∷ 50 ∷ 10 ∷ 99 ∷ 117 ∷ 114 ∷ 118 ∷ 101 ∷ 61 ∷ 48 ∷ 44 ∷ 48 ∷ 44 ∷ 49 ∷ 44 ∷ 48 ∷ 10 ∷ 100 ∷ 105 ∷ 109 ∷ 101 ∷ 110 ∷ 115 ∷ 105 ∷ 111 ∷ 110 ∷ 61 ∷ 53 ∷ 10 ∷ 112 ∷ 108 ∷ 97 ∷ 99 ∷ 101 ∷ 115 ∷ 61 ∷ 49 ∷ 44 ∷ 50 ∷ 44 ∷ 51 ∷ 44 ∷ 53 ∷ 44 ∷ 56 ∷ 10 ∷ 109 ∷ 101 ∷ 115 ∷ 115 ∷ 97 ∷ 103 ∷ 101 ∷ 61 ∷ 49 ∷ 44 ∷ 48 ∷ 44 ∷ 48 ∷ 44 ∷ 48 ∷ 44 ∷ 48 ∷ 10 ∷ []) ∷
+    butFor 1 "curve=0,0,1,0\n" ∷
     -- no last line end
-    (102 ∷ 105 ∷ 101 ∷ 108 ∷ 100 ∷ 61 ∷ 50 ∷ 10 ∷ 99 ∷ 117 ∷ 114 ∷ 118 ∷ 101 ∷ 61 ∷ 48 ∷ 44 ∷ 48 ∷ 44 ∷ 49 ∷ 44 ∷ 48 ∷ 44 ∷ 48 ∷ 10 ∷ 100 ∷ 105 ∷ 109 ∷ 101 ∷ 110 ∷ 115 ∷ 105 ∷ 111 ∷ 110 ∷ 61 ∷ 53 ∷ 10 ∷ 112 ∷ 108 ∷ 97 ∷ 99 ∷ 101 ∷ 115 ∷ 61 ∷ 49 ∷ 44 ∷ 50 ∷ 44 ∷ 51 ∷ 44 ∷ 53 ∷ 44 ∷ 56 ∷ 10 ∷ 109 ∷ 101 ∷ 115 ∷ 115 ∷ 97 ∷ 103 ∷ 101 ∷ 61 ∷ 49 ∷ 44 ∷ 48 ∷ 44 ∷ 48 ∷ 44 ∷ 48 ∷ 44 ∷ 48 ∷ []) ∷
+    butFor 4 "message=1,0,0,0,0" ∷
     []
 
 abbrev pub isBad : Read Sheet → Bool
@@ -67,7 +83,6 @@ unfoldable pub withPlaces : ℕ → List ℕ
 withPlaces n = sheetText (record { head = caseJob .head; places = replicate n 1; message = 1 ∷ [] })
 
 pub record SheetCases : Type 0 where
-  -- "Case, whole", and what "it writes, whole"
   pub whole : answerTo caseSheet ≡ caseAnswer
   pub as-written : sheetText caseJob ≡ caseSheet
   pub of-another-shape : all (λ s. isBad (sheet s)) damaged ≡ true

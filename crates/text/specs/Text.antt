@@ -1,8 +1,15 @@
 -- The text of a sheet and of an answer: lines of a key and of numbers, as bytes.
 use Prim.Native.Nat.{ℕ, zero, suc, _+_, _/_, _%_}
+use Prim.Native.Char.{code}
+use Prim.Native.String.{String, [] as []ₛ, _∷_ as _∷ₛ_}
 use mathlib.Core.Bool.{cond}
 use mathlib.Core.List.{List, [], _∷_, _++_}
 use lib.Dec.{ltb}
+
+-- the bytes of a text in ASCII
+abbrev pub bytes : String → List ℕ
+bytes []ₛ = []
+bytes (c ∷ₛ s) = code c ∷ bytes s
 
 abbrev pub comma : ℕ
 comma = 44
@@ -10,30 +17,30 @@ comma = 44
 abbrev pub lineEnd : ℕ
 lineEnd = 10
 
--- the keys: "field=", "curve=", "dimension=", "places=", "message=", and in the answer "answer=", "function=", "word="
+-- the keys, and those of the answer
 abbrev pub fieldKey : List ℕ
-fieldKey = 102 ∷ 105 ∷ 101 ∷ 108 ∷ 100 ∷ 61 ∷ []
+fieldKey = bytes "field="
 
 abbrev pub curveKey : List ℕ
-curveKey = 99 ∷ 117 ∷ 114 ∷ 118 ∷ 101 ∷ 61 ∷ []
+curveKey = bytes "curve="
 
 abbrev pub dimensionKey : List ℕ
-dimensionKey = 100 ∷ 105 ∷ 109 ∷ 101 ∷ 110 ∷ 115 ∷ 105 ∷ 111 ∷ 110 ∷ 61 ∷ []
+dimensionKey = bytes "dimension="
 
 abbrev pub placesKey : List ℕ
-placesKey = 112 ∷ 108 ∷ 97 ∷ 99 ∷ 101 ∷ 115 ∷ 61 ∷ []
+placesKey = bytes "places="
 
 abbrev pub messageKey : List ℕ
-messageKey = 109 ∷ 101 ∷ 115 ∷ 115 ∷ 97 ∷ 103 ∷ 101 ∷ 61 ∷ []
+messageKey = bytes "message="
 
 abbrev pub answerKey : List ℕ
-answerKey = 97 ∷ 110 ∷ 115 ∷ 119 ∷ 101 ∷ 114 ∷ 61 ∷ []
+answerKey = bytes "answer="
 
 abbrev pub functionKey : List ℕ
-functionKey = 102 ∷ 117 ∷ 110 ∷ 99 ∷ 116 ∷ 105 ∷ 111 ∷ 110 ∷ 61 ∷ []
+functionKey = bytes "function="
 
 abbrev pub wordKey : List ℕ
-wordKey = 119 ∷ 111 ∷ 114 ∷ 100 ∷ 61 ∷ []
+wordKey = bytes "word="
 
 -- the last digits of n, as many as it has and at most so many; the digit 0 is byte 48
 unfoldable pub digits : ℕ → ℕ → List ℕ

@@ -19,7 +19,7 @@ unpack-requires c κs = search needs
 status-requires : tie.Need-status-requires
 status-requires c κs =
     let s = c .before .before .before .before .before .before .before in
-    rw (c .before .unpack .ensures .answers) (unpack-counts (codeOf (c .before .before .before .parameters .result) _ _) (s .args .block .now) (length (s .args .out .now)))
+    rw (c .before .unpack .ensures .answers) (unpack-counts (codeOf (c .before .before .before .parameters .result) _ _) (s .args .symbols .now) (length (s .args .out .now)))
 
 same-length : tie.Need-same-length
 same-length c = search needs

@@ -1,0 +1,3 @@
+# The header, the declarations in Rust and the exports are of the same functions with the same parameters.
+set -e
+python3 tools/interface.py
