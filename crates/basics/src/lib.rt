@@ -1,4 +1,7 @@
 // What every operation answers, and the two numberings that may not be taken for one another.
+pub mod byte;
+pub mod short;
+
 ghost use mathlib.Core.Path.{_≡_};
 ghost use Rattle.basics.specs.Outcome.{number, counts, status};
 ghost use Prim.Native.Nat.{_≤_};

@@ -1,16 +1,11 @@
 // Tests of the lists that operations are lent, each in one pass.
+use basics::short::wide;
 ghost use mathlib.Core.Path.{_≡_};
 ghost use mathlib.Core.Bool.{true};
 ghost use lib.ListN.{replicate};
 ghost use lib.Dec.{eqb};
 ghost use Rattle.basics.specs.Lists.{all, different};
 ghost use Rattle.code.specs.Lists.{isPlace, isBelow};
-
-fn wide(x: u16) -> usize
-    ensures { λ r. ⌜ r ≡ x ⌝ }
-{
-    x as usize
-}
 
 // Every place is 1 to n.
 pub fn all_places(n: usize, places: &[u16]) -> bool

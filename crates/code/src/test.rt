@@ -2,6 +2,7 @@
 use crate::lists::all_different;
 use basics::Answer;
 use basics::Refusal;
+use basics::byte::wide;
 use codewords::Parameters;
 use curve::coefficients_below;
 use curve::is_singular;
@@ -24,12 +25,6 @@ ghost use Rattle.elliptic.specs.Curve.{coefficientsBelow, samePoint};
 ghost use Rattle.codewords.specs.Code.{codeOf, pointsAt, codeAnswer};
 ghost use Rattle.code.specs.Slots.{slot, slotAt};
 ghost use Rattle.code.specs.Points.{isPoint, Pointed, countIn, dimensionIn, pointsAnswer};
-
-fn wide(x: u8) -> usize
-    ensures { λ r. ⌜ r ≡ x ⌝ }
-{
-    x as usize
-}
 
 // Whether p has coordinates in the field and lies on the curve.
 fn is_point(m: u8, powers: &[u8; 255], logs: &[u8; 256], c: Curve, p: Point) -> bool

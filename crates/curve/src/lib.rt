@@ -15,6 +15,7 @@ ghost use Rattle.curve.specs.Points.{pointsOutcome};
 ghost use Rattle.curve.specs.Listing.{Rooms, Appends, Listed};
 use basics::Answer;
 use basics::Refusal;
+use basics::byte::wide;
 use elliptic::Curve;
 use elliptic::Point;
 use field::add;
@@ -73,12 +74,6 @@ pub fn opposite(m: u8, powers: &[u8; 255], logs: &[u8; 256], c: Curve, p: Point)
         x: p.x,
         y: add(p.y, t),
     }
-}
-
-fn wide(x: u8) -> usize
-    ensures { λ r. ⌜ r ≡ x ⌝ }
-{
-    x as usize
 }
 
 // Whether all five coefficients are elements of the field.

@@ -5,6 +5,7 @@ use crate::equations::clear;
 use crate::equations::solve;
 use crate::slices::inner_product;
 use crate::slices::monomials;
+use basics::short::wide;
 use field::logarithms;
 use field::powers;
 ghost use mathlib.Core.Path.{_≡_};
@@ -27,12 +28,6 @@ pub const CONTRADICTION: u8 = 2;
 struct Point {
     x: u8,
     y: u8,
-}
-
-fn wide(x: u16) -> usize
-    ensures { λ r. ⌜ r ≡ x ⌝ }
-{
-    x as usize
 }
 
 // Whether place p is there in lists of the given lengths.

@@ -14,6 +14,7 @@ mod tables;
 
 use basics::Answer;
 use basics::Refusal;
+use basics::byte::wide;
 use tables::LOGARITHMS;
 use tables::MODULI;
 use tables::POWERS;
@@ -21,12 +22,6 @@ use tables::WIDTHS;
 
 // What stands for the logarithm of zero.
 const NONE: u8 = 255;
-
-fn wide(x: u8) -> usize
-    ensures { λ r. ⌜ r ≡ x ⌝ }
-{
-    x as usize
-}
 
 pub fn is_field(m: u8) -> bool
     ensures { λ r. ⌜ r ≡ isField m ⌝ }

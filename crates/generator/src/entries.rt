@@ -1,6 +1,7 @@
 // The entries of a row of the matrix, by its factors. A row is that of a unit message, and so has a message index.
 use basics::MessageIndex;
 use basics::Place;
+use basics::byte::wide;
 use engine::places::index_of;
 use field::logarithm;
 use field::product;
@@ -14,12 +15,6 @@ ghost use Rattle.field.specs.Galois.{IsField};
 ghost use Rattle.field.specs.Tables.{Tables, logTable};
 ghost use Rattle.generator.specs.Arranged.{rank};
 ghost use Rattle.generator.specs.Rows.{RowLists, Factor, total, quotientAt, entryAt, symbolAt};
-
-fn wide(x: u8) -> usize
-    ensures { λ r. ⌜ r ≡ x ⌝ }
-{
-    x as usize
-}
 
 // The sum of the rows at a point where L and U are v and w, but for the row over its coordinate.
 fn column_sum(

@@ -1,6 +1,7 @@
 // A job: the code of a sheet, and Systematic function and word over it.
 use basics::Answer;
 use basics::Refusal;
+use basics::short::wide;
 use code::lists::all_different;
 use code::lists::all_places;
 use code::test::test_code;
@@ -22,12 +23,6 @@ ghost use Rattle.code.specs.Lists.{isBelow};
 ghost use Rattle.codewords.specs.Code.{codeOf, codeAnswer};
 ghost use Rattle.sheet.specs.Job.{jobOutcome, outcomeOver};
 ghost use Rattle.sheet.specs.Running.{Runs, Solves, Rooms, Solvable, overPoints, afterCode, solving, small, parametersOf, jobOf};
-
-fn wide(x: u16) -> usize
-    ensures { λ r. ⌜ r ≡ x ⌝ }
-{
-    x as usize
-}
 
 // Every symbol is below q, whatever a byte can hold.
 fn symbols_below(q: usize, message: &[u16]) -> bool

@@ -1,13 +1,10 @@
 // Lists of places and symbols.
 use crate::random::below;
 use crate::random::symbol;
+use basics::short::wide;
 use elimination::coder::NEW;
 ghost use Prim.Native.Nat.{_<_, _≤_};
 ghost use lib.ListN.{length};
-
-fn wide(x: u16) -> usize {
-    x as usize
-}
 
 // The symbol at a place; 0 where there is no such place.
 pub fn at(list: &[u8], place: u16) -> u8 {

@@ -1,0 +1,9 @@
+// Bytes as indices.
+ghost use mathlib.Core.Path.{_≡_};
+
+// A cast in a function of its own asks nothing of its caller.
+pub fn wide(x: u8) -> usize
+    ensures { λ r. ⌜ r ≡ x ⌝ }
+{
+    x as usize
+}
