@@ -29,7 +29,7 @@ use Rattle.blocks.specs.Outcomes.{plainOutcome}
 use Rattle.solving.specs.Tests.{Lent, cleared}
 use Rattle.coder.specs.Outcomes.{recoverOutcome}
 use Rattle.demands.specs.Call.{Call, Of, Fits}
-use Rattle.demands.specs.Demand2.{Demand2, Monomials, Coded, Decoded, valuesOf}
+use Rattle.demands.specs.Demand2.{Demand2, Monomials, Coded, Decoded, valuesOf, AreValues}
 use Rattle.demands.proofs.Passing.{Decided, decided, accepted-on, on, code-on, length-on, symbols-on, fits-on, message-symbols}
 use Rattle.demands.proofs.Ones.{message-in, in-codeword, is-recovered}
 
@@ -155,7 +155,7 @@ module _ (code : Code) (done : codeAnswer code ≡ Done) where
   cut-values f d =
       ap (λ v. map v (points code)) (fun-ext (λ P. cut-sum (laws code (accepted-done code done)) (code .k) 0 f P (on-codewords code done .degree-all f d)))
 
-  codeword-exactly : (w : List ℕ) → (codeword code w ≡ true) ↔ ((f : List ℕ) × (symbols code f ≡ true) × (degree f ≤ code .k) × (w ≡ valuesOf code f))
+  codeword-exactly : (w : List ℕ) → (codeword code w ≡ true) ↔ AreValues code w
   codeword-exactly w = (
     λ h.
         let (f, m, e) = is-values w .0 h in

@@ -25,6 +25,10 @@ module _ (code : Code) where
   abbrev pub valuesOf : List ℕ → List ℕ
   valuesOf f = map (value (arithmetic code) f) (points code)
 
+  -- w is the list of values of a function of weighted degree at most k: f is its coefficients, however many
+  abbrev pub AreValues : List ℕ → Type 0
+  AreValues w = (f : List ℕ) × (symbols code f ≡ true) × (degree f ≤ code .k) × (w ≡ valuesOf f)
+
   -- the monomials at a point: X^a weighs 2a, X^a·Y weighs 2a + 3, these are all, and none weighs 1
   pub record Monomials (P : Point) : Type 0 where
     pub of-x : (a : ℕ) → (weight (2 * a - 1) ≡ 2 * a) × (monomial (arithmetic code) (2 * a - 1) P ≡ pow (arithmetic code ._·_) (P .x) a)
@@ -48,8 +52,8 @@ module _ (code : Code) where
     pub only : (f : List ℕ) → message code f ≡ true → valuesOf f ≡ w → f ≡ c .out-after
 
   pub record Demand2 : Type 0 where
-    -- "a codeword is the list of values at the listed points of a function of weighted degree at most k": f by its coefficients, however many
-    pub codeword-exactly : (w : List ℕ) → (codeword code w ≡ true) ↔ ((f : List ℕ) × (symbols code f ≡ true) × (degree f ≤ code .k) × (w ≡ valuesOf f))
+    -- "a codeword is the list of values at the listed points of a function of weighted degree at most k"
+    pub codeword-exactly : (w : List ℕ) → (codeword code w ≡ true) ↔ AreValues w
     -- "the k coefficients of a function stand in order of weight: 0, 2, 3, 4, up to k": k are enough, have that degree, and leave none past them
     pub is-values : (w : List ℕ) → (codeword code w ≡ true) ↔ ((f : List ℕ) × (message code f ≡ true) × (valuesOf f ≡ w))
     pub degree-most : (f : List ℕ) → message code f ≡ true → degree f ≤ code .k
