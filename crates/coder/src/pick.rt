@@ -1,14 +1,13 @@
 // Pick: of places ranked best first, the first k that work.
 use basics::Answer;
 use basics::Refusal;
-use code::lists::all_different;
-use code::lists::all_places;
 use code::test::test_code;
 use codewords::Parameters;
 use field::logarithms;
 use field::powers;
+use solving::last_index::last_index;
 use solving::last_zero::last_zero;
-use solving::look::last_index;
+use solving::tests::test_places;
 use solving::work::ROOM;
 use solving::work::clear_room;
 ghost use mathlib.Core.Path.{_≡_};
@@ -81,14 +80,12 @@ fn pick_placed(
     ensures { λ r. ⌜ Meets (pickPlaced (codeOf p (now (xs .entry)) (now (ys .entry))) (now (ranked .entry)) (now (work .entry))) r
         (now (out .entry), now (work .entry)) (now (out .exit), now (work .exit)) ⌝ }
 {
-    if !all_places(xs.len(), ranked) {
-        return Answer::Refused(Refusal::Place);
+    let tested = test_places(xs.len(), ranked);
+    if let Answer::Done = tested {
+        let m = p.field;
+        return pick_run(p, &powers(m), &logarithms(m), xs, ys, ranked, out, work);
     }
-    if !all_different(ranked) {
-        return Answer::Refused(Refusal::RepeatedPlace);
-    }
-    let m = p.field;
-    pick_run(p, &powers(m), &logarithms(m), xs, ys, ranked, out, work)
+    tested
 }
 
 // Pick of a code that passed the code test.

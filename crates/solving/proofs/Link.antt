@@ -34,10 +34,9 @@ use Rattle.values.specs.Values.{ShownIn, Coordinates}
 use Rattle.solving.specs.Given.{Placed, Posed}
 
 -- places are below 512, so that marks can be kept for them
-pub places-below : (code : Code) (J : List ℕ) → codeAnswer code ≡ Done → allPlaces code J ≡ true → all (isBelow 512) J ≡ true
-unfolding allPlaces
-places-below code J h e =
-    all-weaker (isPlace (n code)) (isBelow 512) J (λ a t. lt-ltb a 512 (omega (arith, leb-true a (n code) (both-right (leb 1 a) (leb a (n code)) t), accepted-done code h .n-most))) e
+pub places-below : (n : ℕ) (J : List ℕ) → n ≤ 288 → all (isPlace n) J ≡ true → all (isBelow 512) J ≡ true
+places-below n J h e =
+    all-weaker (isPlace n) (isBelow 512) J (λ a t. lt-ltb a 512 (omega (arith, leb-true a n (both-right (leb 1 a) (leb a n) t)))) e
 
 -- a place of n, and its index
 pub place-at : (n : ℕ) (J : List ℕ) → all (isPlace n) J ≡ true → (i : ℕ) → i < length J → (1 ≤ getD J i 0) × (getD J i 0 - 1 < n)

@@ -1,5 +1,5 @@
 // Whether the first k places are dependent, by the values of L at them.
-use crate::solve_word::zero_in;
+use crate::zero::zero_in;
 use basics::Place;
 use codewords::Parameters;
 use values::run::index_of;

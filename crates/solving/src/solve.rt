@@ -1,6 +1,6 @@
 // The function that takes the symbols at k places: at the first k or, where these are dependent, with the next in place of the last.
-use crate::look::last_index;
-use crate::look::zero_at;
+use crate::last_index::last_index;
+use crate::zero::zero_at;
 use basics::Place;
 use codewords::Parameters;
 use engine::pair::Lengths;

@@ -1,5 +1,6 @@
 // What src/solve.rt solves for, by its values at all points.
-use crate::look::last_index;
+use crate::last_index::last_index;
+use crate::zero::zero_in;
 use basics::Place;
 use codewords::Parameters;
 use engine::pair::Sizes;
@@ -9,26 +10,13 @@ use values::run::index_of;
 use values::run::run;
 ghost use mathlib.Core.Path.{_≡_};
 ghost use mathlib.Core.Bool.{cond};
-ghost use Prim.Native.Nat.{_-_, _<_};
-ghost use lib.Dec.{eqb};
-ghost use lib.ListN.{length, getD};
+ghost use Prim.Native.Nat.{_<_};
+ghost use lib.ListN.{length};
 ghost use Rattle.field.specs.Galois.{galois};
 ghost use Rattle.field.specs.Tables.{Tables};
 ghost use Rattle.elliptic.specs.Pair.{addScaled};
 ghost use Rattle.codewords.specs.Code.{codeOf};
 ghost use Rattle.solving.specs.Given.{Posed, Solving, solvedWord, missing};
-
-// L is zero at the point with index j.
-pub fn zero_in(j: usize, l: &[u8], u: &[u8], n: Sizes) -> bool
-    requires { ⌜ (j < length (now l)) × (j < length (now u)) ⌝ }
-    ensures { λ r. ⌜ r ≡ eqb (getD (cond (n .turned) (now (u .entry)) (now (l .entry))) j 0) 0 ⌝ }
-{
-    let turned = n.turned;
-    if turned {
-        return u[j] == 0;
-    }
-    l[j] == 0
-}
 
 // F, in f, gains the multiple of L, in l, that makes it v at the point with index j.
 fn correct(m: u8, powers: &[u8; 255], logs: &[u8; 256], j: usize, v: u8, l: &[u8], f: &mut [u8])

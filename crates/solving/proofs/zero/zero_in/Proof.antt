@@ -1,7 +1,7 @@
 -- The case that was taken is the one of the definition.
 use borrow.Author.Needs.{needs}
-use Rattle.solving.proofs.solve_word.zero_in.Statement.{statement}
-use Rattle.solving.proofs.solve_word.zero_in.Tie as tie
+use Rattle.solving.proofs.zero.zero_in.Statement.{statement}
+use Rattle.solving.proofs.zero.zero_in.Tie as tie
 
 shared-slice-read-result : tie.Need-shared-slice-read-result
 shared-slice-read-result c = search needs

@@ -1,13 +1,13 @@
-// Where L is zero: at the last of k places, these are dependent.
+// Whether L is zero at a point: at the last of k places, these are dependent. L is given by its coefficients, or by its values at points.
 use basics::Place;
 use engine::pair::Sizes;
 use engine::places::point_at;
 use interpolation::interpolate::low_at;
 ghost use mathlib.Core.Path.{_≡_};
 ghost use mathlib.Core.Bool.{cond};
-ghost use Prim.Native.Nat.{_-_, _≤_};
+ghost use Prim.Native.Nat.{_<_};
 ghost use lib.Dec.{eqb};
-ghost use lib.ListN.{take};
+ghost use lib.ListN.{length, take, getD};
 ghost use Rattle.field.specs.Galois.{galois};
 ghost use Rattle.field.specs.Tables.{Tables};
 ghost use Rattle.elliptic.specs.Pair.{evaluate};
@@ -34,10 +34,14 @@ pub fn zero_at(
     low_at(m, powers, logs, p, l, u, n) == 0
 }
 
-// The index of the last place that is used: the k-th or, where L is zero there, the next.
-pub fn last_index(k: usize, zero: bool) -> usize
-    requires { ⌜ 1 ≤ k ⌝ }
-    ensures { λ r. ⌜ r ≡ cond zero k (k - 1) ⌝ }
+// L is zero at the point with index j.
+pub fn zero_in(j: usize, l: &[u8], u: &[u8], n: Sizes) -> bool
+    requires { ⌜ (j < length (now l)) × (j < length (now u)) ⌝ }
+    ensures { λ r. ⌜ r ≡ eqb (getD (cond (n .turned) (now (u .entry)) (now (l .entry))) j 0) 0 ⌝ }
 {
-    if zero { k } else { k - 1 }
+    let turned = n.turned;
+    if turned {
+        return u[j] == 0;
+    }
+    l[j] == 0
 }

@@ -1,7 +1,7 @@
 -- The case that was taken is the one of the definition.
 use borrow.Author.Needs.{needs}
-use Rattle.solving.proofs.look.last_index.Statement.{statement}
-use Rattle.solving.proofs.look.last_index.Tie as tie
+use Rattle.solving.proofs.last_index.last_index.Statement.{statement}
+use Rattle.solving.proofs.last_index.last_index.Tie as tie
 
 sub-result : tie.Need-sub-result
 sub-result c = search needs
