@@ -1,8 +1,10 @@
 // Pick: of places ranked best first, the first k that work.
 use basics::Answer;
+use basics::MessageIndex;
 use basics::Refusal;
 use code::test::test_code;
 use codewords::Parameters;
+use engine::places::chosen_place;
 use field::logarithms;
 use field::powers;
 use solving::last_index::last_index;
@@ -23,18 +25,20 @@ ghost use Rattle.solving.specs.Tests.{room};
 ghost use Rattle.coder.specs.Outcomes.{pickOutcome};
 ghost use Rattle.coder.specs.Stages.{pickRun, pickPlaced, pickTested};
 
-// The first places, and at the end of `out` the one with the index `last`.
-fn write_picked(ranked: &[u16], last: usize, out: &mut [u16])
-    requires { ⌜ (last < length (now ranked)) × (0 < length (now out)) × (length (now out) ≤ length (now ranked)) ⌝ }
-    ensures { λ _. ⌜ now (out .exit) ≡ take (length (now (out .entry)) - 1) (now (ranked .entry)) ++ getD (now (ranked .entry)) last 0 ∷ [] ⌝ }
+// The first places, and at the end of `out` the one of the message index `last`.
+fn write_picked(ranked: &[u16], last: MessageIndex, out: &mut [u16])
+    requires { ⌜ (last .0 < length (now ranked)) × (0 < length (now out)) × (length (now out) ≤ length (now ranked)) ⌝ }
+    ensures { λ _. ⌜ now (out .exit) ≡ take (length (now (out .entry)) - 1) (now (ranked .entry)) ++ getD (now (ranked .entry)) (last .0) 0 ∷ [] ⌝ }
 {
     let end = out.len() - 1;
     let mut i = 0;
     while i < end {
-        out[i] = ranked[i];
+        let place = chosen_place(ranked, MessageIndex(i));
+        out[i] = place.0;
         i += 1;
     }
-    out[end] = ranked[last];
+    let place = chosen_place(ranked, last);
+    out[end] = place.0;
 }
 
 // Pick of different places.
@@ -58,7 +62,7 @@ fn pick_run(
     }
     let zero = last_zero(p, powers, logs, xs, ys, ranked);
     let last = last_index(p.k, zero);
-    if last == ranked.len() {
+    if last.0 == ranked.len() {
         return Answer::Refused(Refusal::Dependent);
     }
     write_picked(ranked, last, out);

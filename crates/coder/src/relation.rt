@@ -1,9 +1,10 @@
 // Relation: the function with leading coefficient 1 that is zero at k dependent places.
 use basics::Answer;
-use basics::Place;
+use basics::MessageIndex;
 use basics::Refusal;
 use code::test::test_code;
 use codewords::Parameters;
+use engine::places::chosen_place;
 use field::logarithms;
 use field::powers;
 use interpolation::interpolate::run_pair;
@@ -46,8 +47,8 @@ fn relation_run(
     let m = p.field;
     let last = p.k - 1;
     let n = run_pair(m, powers, logs, xs, ys, places, last, l, u);
-    let place = places[last];
-    if !zero_at(m, powers, logs, xs, ys, Place(place), l, u, n) {
+    let place = chosen_place(places, MessageIndex(last));
+    if !zero_at(m, powers, logs, xs, ys, place, l, u, n) {
         return Answer::Refused(Refusal::Independent);
     }
     write_low(l, u, n, out);

@@ -2,6 +2,7 @@
 use crate::write::begin_rows;
 use crate::write::write_rows;
 use basics::Answer;
+use basics::MessageIndex;
 use basics::Refusal;
 use code::test::test_code;
 use codewords::Parameters;
@@ -10,7 +11,7 @@ use field::powers;
 use generator::factors::rows_turn;
 use solving::tests::test_places;
 use solving::work::ROOM;
-use solving::zero::zero_in;
+use solving::zero::zero_chosen;
 ghost use mathlib.Core.Path.{_≡_};
 ghost use Prim.Native.Nat.{_*_, _≤_};
 ghost use lib.ListN.{length};
@@ -49,7 +50,7 @@ fn matrix_in(
     let z = begin_rows(p, powers, logs, xs, ys, places, px, l, u, a, b);
     let k = p.k;
     let last = k - 1;
-    if zero_in(last, l, u, z) {
+    if zero_chosen(MessageIndex(last), l, u, z) {
         return Answer::Refused(Refusal::Dependent);
     }
     rows_turn(p.field, powers, logs, last, px, l, u, a, b, z);

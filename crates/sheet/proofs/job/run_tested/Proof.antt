@@ -6,13 +6,11 @@ use native.Mathlib.Omega.{arith}
 use lib.Dec.{eqb}
 use lib.ListN.{length}
 use borrow.Author.Tests.{eq-eqb, ne-eqb, not-true, not-false}
-use Rattle.basics.specs.declared.Answer.the-variants.{Done}
 use Rattle.basics.specs.Lists.{all}
 use Rattle.code.specs.Lists.{isBelow}
 use Rattle.codewords.specs.Code.{codeOf}
 use Rattle.codewords.specs.Codewords.{allPlaces, placesDiffer, symbols}
 use Rattle.codewords.proofs.Accepted.{accepted-done}
-use Rattle.solving.specs.Tests.{placesAnswer}
 use Rattle.solving.proofs.Chains.{places-passed}
 use Rattle.sheet.proofs.Stops.{passes, stops}
 use Rattle.sheet.proofs.Jobs.{places-stop}

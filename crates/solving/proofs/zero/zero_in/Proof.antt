@@ -1,20 +1,22 @@
--- The case that was taken is the one of the definition.
+-- The value with the index of the place.
+use mathlib.Core.Path.{_∙_, ap}
+use mathlib.Core.Bool.{cond}
+use lib.Dec.{eqb}
+use lib.ListN.{getD}
 use borrow.Author.Needs.{needs}
 use Rattle.solving.proofs.zero.zero_in.Statement.{statement}
 use Rattle.solving.proofs.zero.zero_in.Tie as tie
 
-shared-slice-read-result : tie.Need-shared-slice-read-result
-shared-slice-read-result c = search needs
+index-of-requires : tie.Need-index-of-requires
+index-of-requires c κs = search needs
+
+zero-value-requires : tie.Need-zero-value-requires
+zero-value-requires c κs = search needs
 
 returns : tie.Need-returns
-returns c = rw (c .before .if1 .taken)
-
-shared-slice-read-result-2 : tie.Need-shared-slice-read-result-2
-shared-slice-read-result-2 c = search needs
-
-returns-2 : tie.Need-returns-2
-returns-2 c = rw (c .before .if1 .left)
+returns c =
+    let a = c .before .before .before .before .args in
+    c .zero-value .ensures ∙ ap (λ j. eqb (getD (cond (a .n .turned) (a .u .now) (a .l .now)) j 0) 0) (c .before .index-of .ensures)
 
 pub zero-in-spec : {M : Type 1} → statement M
-zero-in-spec =
-    tie.close (tie.spec shared-slice-read-result returns shared-slice-read-result-2 returns-2)
+zero-in-spec = tie.close (tie.spec index-of-requires zero-value-requires returns)
