@@ -73,6 +73,6 @@ module _ {code : Code} {J : List ℕ} (w : Works code J) (i : MessageIndex) wher
   unfolding row
   the-row = the-word code J unit (w .placed .done) (posed-enough posed-unit (λ e. w .works)) (w .full)
 
--- a word that is written to a list of its length
-pub whole-word : {n m : ℕ} (v : List ℕ) → length v ≡ n → m ≡ n → padded m (take n v) ≡ v
-whole-word {n} v e d = rw (take-all n v (omega arith), d) (padded-full n v e)
+-- a word that is copied to a list of its length
+pub whole-word : {n : ℕ} {v out : List ℕ} → length v ≡ n → length out ≡ n → take n out ≡ take n v → out ≡ v
+whole-word {n} {v} {out} e d h = sym (take-all n out (omega arith)) ∙ h ∙ take-all n v (omega arith)

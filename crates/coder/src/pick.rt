@@ -1,14 +1,15 @@
 // Pick: of places ranked best first, the first k that work.
 use basics::Answer;
+use basics::MessageIndex;
 use basics::Refusal;
-use code::lists::all_different;
-use code::lists::all_places;
 use code::test::test_code;
 use codewords::Parameters;
+use engine::places::chosen_place;
 use field::logarithms;
 use field::powers;
+use solving::last_index::last_index;
 use solving::last_zero::last_zero;
-use solving::look::last_index;
+use solving::tests::test_places;
 use solving::work::ROOM;
 use solving::work::clear_room;
 ghost use mathlib.Core.Path.{_≡_};
@@ -24,18 +25,20 @@ ghost use Rattle.solving.specs.Tests.{room};
 ghost use Rattle.coder.specs.Outcomes.{pickOutcome};
 ghost use Rattle.coder.specs.Stages.{pickRun, pickPlaced, pickTested};
 
-// The first places, and at the end of `out` the one with the index `last`.
-fn write_picked(ranked: &[u16], last: usize, out: &mut [u16])
-    requires { ⌜ (last < length (now ranked)) × (0 < length (now out)) × (length (now out) ≤ length (now ranked)) ⌝ }
-    ensures { λ _. ⌜ now (out .exit) ≡ take (length (now (out .entry)) - 1) (now (ranked .entry)) ++ getD (now (ranked .entry)) last 0 ∷ [] ⌝ }
+// The first places, and at the end of `out` the one of the message index `last`.
+fn write_picked(ranked: &[u16], last: MessageIndex, out: &mut [u16])
+    requires { ⌜ (last .0 < length (now ranked)) × (0 < length (now out)) × (length (now out) ≤ length (now ranked)) ⌝ }
+    ensures { λ _. ⌜ now (out .exit) ≡ take (length (now (out .entry)) - 1) (now (ranked .entry)) ++ getD (now (ranked .entry)) (last .0) 0 ∷ [] ⌝ }
 {
     let end = out.len() - 1;
     let mut i = 0;
     while i < end {
-        out[i] = ranked[i];
+        let place = chosen_place(ranked, MessageIndex(i));
+        out[i] = place.0;
         i += 1;
     }
-    out[end] = ranked[last];
+    let place = chosen_place(ranked, last);
+    out[end] = place.0;
 }
 
 // Pick of different places.
@@ -59,7 +62,7 @@ fn pick_run(
     }
     let zero = last_zero(p, powers, logs, xs, ys, ranked);
     let last = last_index(p.k, zero);
-    if last == ranked.len() {
+    if last.0 == ranked.len() {
         return Answer::Refused(Refusal::Dependent);
     }
     write_picked(ranked, last, out);
@@ -81,14 +84,12 @@ fn pick_placed(
     ensures { λ r. ⌜ Meets (pickPlaced (codeOf p (now (xs .entry)) (now (ys .entry))) (now (ranked .entry)) (now (work .entry))) r
         (now (out .entry), now (work .entry)) (now (out .exit), now (work .exit)) ⌝ }
 {
-    if !all_places(xs.len(), ranked) {
-        return Answer::Refused(Refusal::Place);
+    let tested = test_places(xs.len(), ranked);
+    if let Answer::Done = tested {
+        let m = p.field;
+        return pick_run(p, &powers(m), &logarithms(m), xs, ys, ranked, out, work);
     }
-    if !all_different(ranked) {
-        return Answer::Refused(Refusal::RepeatedPlace);
-    }
-    let m = p.field;
-    pick_run(p, &powers(m), &logarithms(m), xs, ys, ranked, out, work)
+    tested
 }
 
 // Pick of a code that passed the code test.

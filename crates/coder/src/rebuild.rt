@@ -3,7 +3,7 @@ use basics::Answer;
 use basics::Refusal;
 use code::test::test_code;
 use codewords::Parameters;
-use interpolation::write::write_function;
+use engine::slices::copy;
 use solving::prepare_word::prepare_word;
 use solving::words::agrees_at;
 use solving::work::ROOM;
@@ -39,7 +39,7 @@ fn rebuild_run(
         if !agrees_at(f, places, symbols) {
             return Answer::Refused(Refusal::NoCodeword);
         }
-        write_function(f, xs.len(), out);
+        copy(f, xs.len(), out);
         clear_room(work);
         return Answer::Done;
     }

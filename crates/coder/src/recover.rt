@@ -1,5 +1,7 @@
 // Recover: the coefficients of a codeword, from all its symbols.
 use basics::Answer;
+use basics::MessageIndex;
+use basics::Place;
 use basics::Refusal;
 use code::test::test_code;
 use codewords::Parameters;
@@ -19,11 +21,12 @@ ghost use Rattle.solving.specs.Tests.{room};
 ghost use Rattle.coder.specs.Outcomes.{recoverOutcome};
 ghost use Rattle.coder.specs.Stages.{placeAt, recoverRun, recoverTested};
 
-fn place_at(i: usize) -> u16
-    requires { ⌜ i < 288 ⌝ }
-    ensures { λ r. ⌜ r ≡ placeAt i ⌝ }
+// The place of a message index, where all places are chosen in their order.
+fn place_at(index: MessageIndex) -> Place
+    requires { ⌜ index .0 < 288 ⌝ }
+    ensures { λ r. ⌜ r .0 ≡ placeAt (index .0) ⌝ }
 {
-    i as u16 + 1
+    Place(index.0 as u16 + 1)
 }
 
 // All places in their order.
@@ -33,7 +36,8 @@ fn fill_places(places: &mut [u16])
 {
     let mut i = 0;
     while i < places.len() {
-        places[i] = place_at(i);
+        let place = place_at(MessageIndex(i));
+        places[i] = place.0;
         i += 1;
     }
 }

@@ -1,18 +1,18 @@
 // Relation: the function with leading coefficient 1 that is zero at k dependent places.
 use basics::Answer;
-use basics::Place;
+use basics::MessageIndex;
 use basics::Refusal;
-use code::lists::all_different;
-use code::lists::all_places;
 use code::test::test_code;
 use codewords::Parameters;
+use engine::places::chosen_place;
 use field::logarithms;
 use field::powers;
 use interpolation::interpolate::run_pair;
 use interpolation::write::write_low;
-use solving::look::zero_at;
+use solving::tests::test_places;
 use solving::work::ROOM;
 use solving::work::clear_room;
+use solving::zero::zero_at;
 ghost use mathlib.Core.Path.{_≡_};
 ghost use Prim.Native.Nat.{_≤_};
 ghost use lib.ListN.{length};
@@ -47,8 +47,8 @@ fn relation_run(
     let m = p.field;
     let last = p.k - 1;
     let n = run_pair(m, powers, logs, xs, ys, places, last, l, u);
-    let place = places[last];
-    if !zero_at(m, powers, logs, xs, ys, Place(place), l, u, n) {
+    let place = chosen_place(places, MessageIndex(last));
+    if !zero_at(m, powers, logs, xs, ys, place, l, u, n) {
         return Answer::Refused(Refusal::Independent);
     }
     write_low(l, u, n, out);
@@ -70,27 +70,25 @@ fn relation_placed(
     ensures { λ r. ⌜ Meets (relationPlaced (codeOf p (now (xs .entry)) (now (ys .entry))) (now (places .entry)) (now (work .entry))) r
         (now (out .entry), now (work .entry)) (now (out .exit), now (work .exit)) ⌝ }
 {
-    if !all_places(xs.len(), places) {
-        return Answer::Refused(Refusal::Place);
+    let tested = test_places(xs.len(), places);
+    if let Answer::Done = tested {
+        let m = p.field;
+        let mut l = [0u8; 292];
+        let mut u = [0u8; 292];
+        return relation_run(
+            p,
+            &powers(m),
+            &logarithms(m),
+            xs,
+            ys,
+            places,
+            &mut l,
+            &mut u,
+            out,
+            work,
+        );
     }
-    if !all_different(places) {
-        return Answer::Refused(Refusal::RepeatedPlace);
-    }
-    let m = p.field;
-    let mut l = [0u8; 292];
-    let mut u = [0u8; 292];
-    relation_run(
-        p,
-        &powers(m),
-        &logarithms(m),
-        xs,
-        ys,
-        places,
-        &mut l,
-        &mut u,
-        out,
-        work,
-    )
+    tested
 }
 
 // Relation of a code that passed the code test.

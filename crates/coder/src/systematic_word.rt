@@ -3,7 +3,7 @@ use basics::Answer;
 use basics::Refusal;
 use code::test::test_code;
 use codewords::Parameters;
-use interpolation::write::write_function;
+use engine::slices::copy;
 use solving::prepare_word::prepare_word;
 use solving::work::ROOM;
 use solving::work::clear_room;
@@ -35,7 +35,7 @@ fn systematic_word_run(
 {
     let prepared = prepare_word(p, xs, ys, places, symbols, f);
     if let Answer::Done = prepared {
-        write_function(f, xs.len(), out);
+        copy(f, xs.len(), out);
         clear_room(work);
         return Answer::Done;
     }

@@ -4,15 +4,14 @@ use crate::write::write_rows;
 use basics::Answer;
 use basics::MessageIndex;
 use basics::Refusal;
-use code::lists::all_different;
-use code::lists::all_places;
 use code::test::test_code;
 use codewords::Parameters;
 use field::logarithms;
 use field::powers;
 use generator::factors::rows_turn;
-use solving::solve_word::zero_in;
+use solving::tests::test_places;
 use solving::work::ROOM;
+use solving::zero::zero_chosen;
 ghost use mathlib.Core.Path.{_≡_};
 ghost use Prim.Native.Nat.{_*_, _≤_};
 ghost use lib.ListN.{length};
@@ -51,7 +50,7 @@ fn matrix_in(
     let z = begin_rows(p, powers, logs, xs, ys, places, px, l, u, a, b);
     let k = p.k;
     let last = k - 1;
-    if zero_in(last, l, u, z) {
+    if zero_chosen(MessageIndex(last), l, u, z) {
         return Answer::Refused(Refusal::Dependent);
     }
     rows_turn(p.field, powers, logs, MessageIndex(last), px, l, u, a, b, z);
@@ -112,14 +111,12 @@ fn matrix_placed(
     ensures { λ r. ⌜ Meets (matrixPlaced (codeOf p (now (xs .entry)) (now (ys .entry))) (now (places .entry)) (now (work .entry))) r
         (now (out .entry), now (work .entry)) (now (out .exit), now (work .exit)) ⌝ }
 {
-    if !all_places(xs.len(), places) {
-        return Answer::Refused(Refusal::Place);
+    let tested = test_places(xs.len(), places);
+    if let Answer::Done = tested {
+        let m = p.field;
+        return matrix_run(p, &powers(m), &logarithms(m), xs, ys, places, out, work);
     }
-    if !all_different(places) {
-        return Answer::Refused(Refusal::RepeatedPlace);
-    }
-    let m = p.field;
-    matrix_run(p, &powers(m), &logarithms(m), xs, ys, places, out, work)
+    tested
 }
 
 // Matrix of a code that passed the code test, so that k·n is small.

@@ -28,9 +28,9 @@ use Rattle.curve.proofs.Count.{points-counts}
 use Rattle.code.specs.Lists.{isBelow}
 use Rattle.codewords.specs.declared.Parameters.{Parameters}
 use Rattle.codewords.specs.Code.{Code, codeAnswer, checkCode, coefficientsBelow as codeBelow, smooth}
-use Rattle.codewords.specs.Codewords.{symbols, systematicFunction, systematicWord, usable}
+use Rattle.codewords.specs.Codewords.{allPlaces, placesDiffer, symbols, systematicFunction, systematicWord, usable}
 use Rattle.codewords.proofs.Accepted.{check-done, accepted-done}
-use Rattle.solving.specs.Tests.{cleared}
+use Rattle.solving.specs.Tests.{cleared, checkPlaces, placesAnswer}
 use Rattle.coder.specs.Outcomes.{systematicFunctionOutcome, systematicWordOutcome}
 use Rattle.text.specs.declared.sheet.Head.{Head}
 use Rattle.sheet.specs.Job.{outcomeOver}
@@ -98,7 +98,7 @@ n-few code h = accepted-done code h .n-most
 pub k-few : (code : Code) → codeAnswer code ≡ Done → code .k ≤ 288
 k-few code h = omega (arith, accepted-done code h .k-most, accepted-done code h .n-most)
 
--- ---- stopped by the code test, or by Points
+-- ---- stopped by the code test, by the tests of places, or by Points
 
 module _ {k : ℕ} {f w : List ℕ} {r : Answer} where
   stop-check : {M : Type 0} (b : Bool) (e : Refusal) (u : Outcome M) (o : Outcome Result) → (r ≡ answer u → Runs o k f w r) → r ≡ answer (check b e u) → Runs (check b e o) k f w r
@@ -114,6 +114,10 @@ module _ {k : ℕ} {f w : List ℕ} {r : Answer} where
   unfolding codeAnswer
   code-stops code o h d =
       stop-check _ _ _ _ (stop-check _ _ _ _ (stop-check _ _ _ _ (stop-check _ _ _ _ (stop-check _ _ _ _ (stop-check _ _ _ _ (stop-check _ _ _ _ (code-end d o))))))) h
+
+  pub places-stop : (code : Code) (J : List ℕ) (o : Outcome Result) → r ≡ placesAnswer (length (code .xs)) J → (r ≡ Done → ⊥) → Runs (checkPlaces code J o) k f w r
+  unfolding allPlaces placesDiffer
+  places-stop code J o h d = stop-check _ _ _ _ (stop-check _ _ _ _ (code-end d o)) h
 
   points-end : {M : Type 0} (n : ℕ) (m : M) → ((i : ℕ) → r ≡ Counted i → ⊥) → (o : Outcome Result) {b : Bool} (e : Refusal) → b ≡ true → r ≡ answer (check b e (counted n m)) → Runs o k f w r
   unfolding answer check

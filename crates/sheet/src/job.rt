@@ -2,8 +2,6 @@
 use basics::Answer;
 use basics::Refusal;
 use basics::short::wide;
-use code::lists::all_different;
-use code::lists::all_places;
 use code::test::test_code;
 use coder::systematic_function::systematic_function;
 use coder::systematic_word::systematic_word;
@@ -12,6 +10,7 @@ use curve::points;
 use elliptic::Curve;
 use field::is_field;
 use field::size;
+use solving::tests::test_places;
 use text::sheet::Head;
 ghost use mathlib.Core.Path.{_≡_};
 ghost use mathlib.Core.Bool.{true};
@@ -162,16 +161,14 @@ fn run_tested(
     if message.len() != p.k {
         return Answer::Refused(Refusal::Length);
     }
-    if !all_places(xs.len(), places) {
-        return Answer::Refused(Refusal::Place);
+    let tested = test_places(xs.len(), places);
+    if let Answer::Done = tested {
+        if !symbols_below(size(p.field), message) {
+            return Answer::Refused(Refusal::Symbol);
+        }
+        return solve_message(p, xs, ys, places, message, function, word);
     }
-    if !all_different(places) {
-        return Answer::Refused(Refusal::RepeatedPlace);
-    }
-    if !symbols_below(size(p.field), message) {
-        return Answer::Refused(Refusal::Symbol);
-    }
-    solve_message(p, xs, ys, places, message, function, word)
+    tested
 }
 
 // The code test, and then what is behind it.

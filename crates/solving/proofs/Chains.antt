@@ -14,11 +14,11 @@ use Rattle.basics.specs.declared.Answer.{Answer}
 use Rattle.basics.specs.declared.Answer.the-variants.{Done, Refused}
 use Rattle.basics.specs.Outcome.{Outcome, accepted, check, answer, left, Meets}
 use Rattle.basics.proofs.Outcomes.{check-true, pass, refuse, accept}
-use Rattle.codewords.specs.Code.{Code, codeAnswer}
+use Rattle.codewords.specs.Code.{Code, n, codeAnswer}
 use Rattle.codewords.specs.Codewords.{allPlaces, placesDiffer, symbols, dependent, usable}
 use Rattle.codewords.specs.Computed.{Enough}
-use Rattle.solving.specs.Given.{Posed, Solving, Prepared}
-use Rattle.solving.specs.Tests.{checkPlaces, checkSymbols, checkLists, listsAnswer, checkPosed, posedAnswer}
+use Rattle.solving.specs.Given.{Placed, Posed, Solving, Prepared}
+use Rattle.solving.specs.Tests.{checkPlaces, placesAnswer, checkSymbols, checkLists, listsAnswer, checkPosed, posedAnswer}
 use Rattle.solving.proofs.Link.{posed-enough}
 
 -- a chain that answers Done passed its first test
@@ -38,6 +38,23 @@ module _ {M : Type 0} {r : Answer} {old : M} where
   stop-end : (o : Outcome M) → r ≡ answer {M = Unit {0}} (accepted tt) → (r ≡ Done → ⊥) → Meets o r old old
   unfolding answer
   stop-end o h d = absurd (d h)
+
+-- an operation that begins with the tests of places: it goes on where their answer is Done, and else the answer is its own
+module _ (code : Code) (J : List ℕ) where
+  pub places-stop : {M : Type 0} {r : Answer} {old : M} (o : Outcome M) → r ≡ placesAnswer (n code) J → (r ≡ Done → ⊥) → Meets (checkPlaces code J o) r old old
+  unfolding allPlaces placesDiffer
+  places-stop o = stop-check _ _ _ _ (stop-check _ _ _ _ (stop-end o))
+
+  module _ (h : placesAnswer (n code) J ≡ Done) where
+    pub places-passed : (allPlaces code J ≡ true) × (placesDiffer code J ≡ true)
+    unfolding allPlaces placesDiffer
+    places-passed = let (a, h₁) = done-check _ _ _ h in (a, done-check _ _ _ h₁ .0)
+
+    pub are-placed : codeAnswer code ≡ Done → Placed code J
+    are-placed done = record { done = done; all-places = places-passed .0; differ = places-passed .1 }
+
+    pub places-go : {M : Type 0} (o : Outcome M) {r : Answer} {old new : M} → Meets o r old new → Meets (checkPlaces code J o) r old new
+    places-go o m = pass _ (places-passed .0) (pass _ (places-passed .1) m)
 
 module _ (code : Code) (J us : List ℕ) where
   pub lists-stop : {M : Type 0} {r : Answer} {old : M} (o : Outcome M) → r ≡ listsAnswer code J us → (r ≡ Done → ⊥) → Meets (checkLists code J us o) r old old

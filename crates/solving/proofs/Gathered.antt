@@ -14,10 +14,10 @@ use Rattle.elliptic.specs.Pair.{evaluate, after}
 use Rattle.elliptic.proofs.Steps.{after-same}
 use Rattle.codewords.specs.Code.{Code, arithmetic}
 use Rattle.codewords.specs.Computed.{lastZero, pointsOf}
-use Rattle.engine.specs.Places.{pointOf, valueAt}
+use Rattle.engine.specs.Places.{pointOf, coordinateAt, valueAt}
 use Rattle.engine.proofs.Runs.{point-at}
 use Rattle.values.specs.Values.{Coordinates, RunsFirst, pointsIn}
-use Rattle.solving.specs.Given.{Placed, coordinateAt}
+use Rattle.solving.specs.Given.{Placed}
 use Rattle.solving.proofs.Link.{accepted, no-symbols, pts, index-in, code-coordinates, small, zero-by}
 
 module _ {code : Code} {J : List ℕ} (p : Placed code J) (h : code .k ≤ length J) {gx gy : List ℕ}

@@ -107,20 +107,22 @@ module _ {code : Code} {J : List ℕ} (p : Placed code J) (us : List ℕ) (s : s
         ∙ sym (step-word F (at i) (getD us i 0) state (rw d not-zero)) in
         ap (padded (code .k)) same ∙ ap (λ j. padded (code .k) (step F (at j) (getD us j 0) state .word)) (d ∙ ap (λ b. cond b (code .k) c) e)
 
-    pub solves : {l u f g : List ℕ} {n : Lengths} → Filled l u f n (after F (pts p) us c)
-        → Holds g (code .k) (padded (code .k) (corrected F (pointOf (code .xs) (code .ys) (getD J i 0)) (getD us i 0) (take (n .pair .low) (cond (n .pair .turned) u l)) (take (n .word) f)))
+    pub solves : {l u f g : List ℕ} {n : Lengths} {a v : ℕ} → Filled l u f n (after F (pts p) us c) → a ≡ getD J i 0 → v ≡ getD us i 0
+        → Holds g (code .k) (padded (code .k) (corrected F (pointOf (code .xs) (code .ys) a) v (take (n .pair .low) (cond (n .pair .turned) u l)) (take (n .word) f)))
         → Solving code J (HoldsFunction code J us g) true
-    solves q w = record { free = sym (is-free p us s h e inside); holds = λ t. holds-as w (is-solution (q .pair .low .first) (q .word .first)) }
+    solves {l} {u} {f} {n = n} q x y w =
+        let same : ℕ → ℕ → List ℕ = λ a v. padded (code .k) (corrected F (pointOf (code .xs) (code .ys) a) v (take (n .pair .low) (cond (n .pair .turned) u l)) (take (n .word) f)) in
+        record { free = sym (is-free p us s h e inside); holds = λ t. holds-as w (ap₂ same x y ∙ is-solution (q .pair .low .first) (q .word .first)) }
 
     -- the same by values
-    pub solves-word : (l u : List ℕ) {f g : List ℕ} (n : Sizes) {j : ℕ} → ShownIn (code .field) (code .xs) (code .ys) 0 l u n (after F (pts p) us c)
-        → Shows (code .field) (code .xs) (code .ys) 0 (after F (pts p) us c .word) f → j ≡ getD J i 0 - 1
-        → g ≡ addScaled F (missing (code .field) j (getD us i 0) (cond (n .turned) u l) f) (cond (n .turned) u l) f
+    pub solves-word : (l u : List ℕ) {f g : List ℕ} (n : Sizes) {a v : ℕ} → ShownIn (code .field) (code .xs) (code .ys) 0 l u n (after F (pts p) us c)
+        → Shows (code .field) (code .xs) (code .ys) 0 (after F (pts p) us c .word) f → a ≡ getD J i 0 → v ≡ getD us i 0
+        → g ≡ addScaled F (missing (code .field) a v (cond (n .turned) u l) f) (cond (n .turned) u l) f
         → Solving code J (g ≡ solvedWord code J us) true
-    solves-word l u {f} {g} n {j} q w y x =
+    solves-word l u {f} {g} n {a} {v} q w y y₂ x =
         let L = cond (n .turned) u l in
-        let t = missing (code .field) j (getD us i 0) L f in
-        let same : t ≡ missing (code .field) (getD J i 0 - 1) (getD us i 0) L f = ap (λ j. missing (code .field) j (getD us i 0) L f) y in
+        let t = missing (code .field) a v L f in
+        let same : t ≡ missing (code .field) (getD J i 0) (getD us i 0) L f = ap₂ (λ a v. missing (code .field) a v L f) y y₂ in
         let gained = swept-add (code .field) t L f (q .low-values .size ∙ sym (w .size)) in
         let shown = corrects (accepted p .field) (code .xs) (code .ys) (after F (pts p) us c .low) (after F (pts p) us c .word) (getD us i 0) (index-in p i (rw d (index-lt p us s h e inside))) t same (q .low-values) w gained in
         record {

@@ -7,7 +7,6 @@ use native.Mathlib.Omega.{arith}
 use borrow.Author.Tests.{eq-eqb, leb-true, lt-ltb}
 use lib.Dec.{eqb, leb}
 use lib.ListN.{length, getD, take, replicate}
-use Rattle.basics.specs.declared.Answer.the-variants.{Done}
 use Rattle.basics.specs.Lists.{all}
 use Rattle.basics.proofs.Lists.{both-true, both-left, both-right, all-get, all-weaker}
 use Rattle.field.specs.Field.{Arithmetic}
@@ -16,7 +15,7 @@ use Rattle.elliptic.specs.Curve.{point}
 use Rattle.elliptic.specs.Pair.{evaluate, padded, after}
 use Rattle.elliptic.proofs.Points.{Points}
 use Rattle.elliptic.proofs.Steps as steps
-use Rattle.codewords.specs.Code.{Code, arithmetic, n, codeAnswer}
+use Rattle.codewords.specs.Code.{Code, arithmetic, n}
 use Rattle.codewords.specs.Codewords.{allPlaces, placesDiffer, places as different, choice, symbols, dependent, usable, relation}
 use Rattle.codewords.specs.Computed.{Enough, pointsOf as pointsIn, lastZero}
 use Rattle.codewords.proofs.Accepted.{Accepted, accepted-done, laws}
@@ -27,17 +26,16 @@ use Rattle.codewords.proofs.Computed.{computed}
 use Rattle.code.specs.Lists.{isPlace, isBelow}
 use Rattle.engine.specs.declared.pair.Sizes.{Sizes}
 use Rattle.engine.specs.Arrays.{Pair, Small}
-use Rattle.engine.specs.Places.{pointOf, pointsOf, Within, Runs}
+use Rattle.engine.specs.Places.{pointOf, pointsOf, Chosen, Within, Runs}
 use Rattle.engine.proofs.States.{low-value}
 use Rattle.engine.proofs.Runs.{point-at, within-all, runs, small-after}
 use Rattle.values.specs.Values.{ShownIn, Coordinates}
 use Rattle.solving.specs.Given.{Placed, Posed}
 
 -- places are below 512, so that marks can be kept for them
-pub places-below : (code : Code) (J : List ℕ) → codeAnswer code ≡ Done → allPlaces code J ≡ true → all (isBelow 512) J ≡ true
-unfolding allPlaces
-places-below code J h e =
-    all-weaker (isPlace (n code)) (isBelow 512) J (λ a t. lt-ltb a 512 (omega (arith, leb-true a (n code) (both-right (leb 1 a) (leb a (n code)) t), accepted-done code h .n-most))) e
+pub places-below : (n : ℕ) (J : List ℕ) → n ≤ 288 → all (isPlace n) J ≡ true → all (isBelow 512) J ≡ true
+places-below n J h e =
+    all-weaker (isPlace n) (isBelow 512) J (λ a t. lt-ltb a 512 (omega (arith, leb-true a n (both-right (leb 1 a) (leb a n) t)))) e
 
 -- a place of n, and its index
 pub place-at : (n : ℕ) (J : List ℕ) → all (isPlace n) J ≡ true → (i : ℕ) → i < length J → (1 ≤ getD J i 0) × (getD J i 0 - 1 < n)
@@ -100,6 +98,9 @@ module _ {code : Code} {J : List ℕ} (p : Placed code J) where
   unfolding allPlaces
   all-in f e = rw e (p .all-places)
 
+  pub are-chosen : (f : List ℕ) → length f ≡ n code → (count : ℕ) → count ≤ length J → Chosen (length f) J count
+  are-chosen f e count h = record { enough = h; is-place = λ i l. let t = place-at (length f) J (all-in f e) i (omega arith) in (t .0, omega (arith, t .0, t .1)) }
+
   pub k-fits : code .k ≤ 288
   k-fits = omega (arith, accepted .k-most, accepted .n-most)
 
@@ -134,15 +135,16 @@ module _ {code : Code} {J : List ℕ} (p : Placed code J) where
         e ∙ ap (λ v. eqb v 0)
         (q ∙ ap₂ (λ l P. evaluate F (after F l us (code .k - 1) .low) P) points-same (chosen (code .k - 1) (omega (arith, accepted .k-least))))
 
-    pub zero-last : {l u : List ℕ} {z : Sizes} {r : Bool} → code .k ≤ length J → Pair l u z (after F pts us (code .k - 1))
-        → r ≡ eqb (evaluate F (take (z .low) (cond (z .turned) u l)) (pointOf (code .xs) (code .ys) (getD J (code .k - 1) 0))) 0
+    pub zero-last : {l u : List ℕ} {z : Sizes} {a : ℕ} {r : Bool} → code .k ≤ length J → Pair l u z (after F pts us (code .k - 1))
+        → a ≡ getD J (code .k - 1) 0 → r ≡ eqb (evaluate F (take (z .low) (cond (z .turned) u l)) (pointOf (code .xs) (code .ys) a)) 0
         → r ≡ lastZero F (code .k) (pointsIn code J) us
-    zero-last h q e = zero-by h (low-value q F _) e
+    zero-last {a = a} h q d e =
+        zero-by h (low-value q F (pointOf (code .xs) (code .ys) a) ∙ ap (λ a. evaluate F (after F pts us (code .k - 1) .low) (pointOf (code .xs) (code .ys) a)) d) e
 
-    pub zero-shown : (l u : List ℕ) (z : Sizes) {j : ℕ} {r : Bool} → code .k ≤ length J → ShownIn (code .field) (code .xs) (code .ys) 0 l u z (after F pts us (code .k - 1))
-        → j ≡ getD J (code .k - 1) 0 - 1 → r ≡ eqb (getD (cond (z .turned) u l) j 0) 0 → r ≡ lastZero F (code .k) (pointsIn code J) us
+    pub zero-shown : (l u : List ℕ) (z : Sizes) {a : ℕ} {r : Bool} → code .k ≤ length J → ShownIn (code .field) (code .xs) (code .ys) 0 l u z (after F pts us (code .k - 1))
+        → a ≡ getD J (code .k - 1) 0 → r ≡ eqb (getD (cond (z .turned) u l) (a - 1) 0) 0 → r ≡ lastZero F (code .k) (pointsIn code J) us
     zero-shown l u z h q d e =
-        zero-by h (ap (λ j. getD (cond (z .turned) u l) j 0) d ∙ q .low-values .at (getD J (code .k - 1) 0 - 1) (omega arith) (index-in (code .k - 1) (omega (arith, accepted .k-least)))) e
+        zero-by h (ap (λ a. getD (cond (z .turned) u l) (a - 1) 0) d ∙ q .low-values .at (getD J (code .k - 1) 0 - 1) (omega arith) (index-in (code .k - 1) (omega (arith, accepted .k-least)))) e
 
     pub is-dependent : {r : Bool} → length J ≡ code .k → r ≡ lastZero F (code .k) (pointsIn code J) us → dependent code J ≡ r
     is-dependent e h = computed code (p .done) .dependent-by J us (is-choice e) s ∙ sym h

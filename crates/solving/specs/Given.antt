@@ -35,13 +35,9 @@ pub record Posed (code : Code) (J us : List ℕ) : Type 0 where
   pub lengths : length us ≡ length J
   pub at-least : code .k ≤ length J
 
--- the coordinate at the i-th place of a list
-abbrev pub coordinateAt : List ℕ → List ℕ → ℕ → ℕ
-coordinateAt xs J i = getD xs (getD J i 0 - 1) 0
-
--- the multiple of l that f gains to be v at the point with index j, by their values
+-- the multiple of l that f gains to be v at the place p, by their values at all points
 abbrev pub missing : ℕ → ℕ → ℕ → List ℕ → List ℕ → ℕ
-missing m j v l f = product m (bitXor v (getD f j 0)) (inverse m (getD l j 0))
+missing m p v l f = product m (bitXor v (getD f (p - 1) 0)) (inverse m (getD l (p - 1) 0))
 
 -- whether there is something to solve for, and then it is where the claim says
 pub record Solving (code : Code) (J : List ℕ) (claim : Type 0) (r : Bool) : Type 0 where

@@ -7,9 +7,11 @@ use lib.Dec.{eqb, leb}
 use lib.ListN.{length, drop, replicate}
 use Rattle.basics.specs.declared.Refusal.the-variants.{Length, Place, RepeatedPlace, Symbol, Dependent, TooFew}
 use Rattle.basics.specs.declared.Answer.{Answer}
+use Rattle.basics.specs.Lists.{all, different}
 use Rattle.basics.specs.Outcome.{Outcome, accepted, check, answer}
 use Rattle.codewords.specs.Code.{Code}
 use Rattle.codewords.specs.Codewords.{allPlaces, placesDiffer, symbols, dependent}
+use Rattle.code.specs.Lists.{isPlace}
 
 -- an output, and the working space
 abbrev pub Lent : Type 0
@@ -36,6 +38,10 @@ module _ {M : Type 0} where
 
   abbrev pub checkSymbols : Code → List ℕ → Outcome M → Outcome M
   checkSymbols code us o = check (symbols code us) Symbol o
+
+-- the answer alone of the tests of places, by the number of points
+abbrev pub placesAnswer : ℕ → List ℕ → Answer
+placesAnswer n J = answer {M = Unit {0}} (check (all (isPlace n) J) Place (check (different eqb J) RepeatedPlace (accepted tt)))
 
 module _ (code : Code) where
   -- the tests of places and symbols from number 9 to 13, and their answer alone

@@ -1,38 +1,22 @@
 // Whether the first k places are dependent, by the values of L at them.
-use crate::solve_word::zero_in;
-use basics::Place;
+use crate::zero::zero_chosen;
+use basics::MessageIndex;
 use codewords::Parameters;
-use values::run::index_of;
+use engine::places::gather;
 use values::run::run_pair;
 ghost use mathlib.Core.Path.{_≡_};
-ghost use mathlib.Core.Bool.{true};
 ghost use mathlib.Core.List.{[]};
 ghost use Prim.Native.Nat.{_-_, _<_, _≤_};
 ghost use lib.Dec.{eqb};
 ghost use lib.ListN.{length};
-ghost use Rattle.basics.specs.Lists.{all, table};
 ghost use Rattle.field.specs.Galois.{galois};
 ghost use Rattle.field.specs.Tables.{Tables};
 ghost use Rattle.elliptic.specs.Pair.{after};
 ghost use Rattle.codewords.specs.Code.{codeOf};
 ghost use Rattle.codewords.specs.Computed.{lastZero, pointsOf};
-ghost use Rattle.code.specs.Lists.{isPlace};
 ghost use Rattle.engine.specs.Places.{valueAt};
 ghost use Rattle.values.specs.Values.{Coordinates, RunsFirst, pointsIn};
-ghost use Rattle.solving.specs.Given.{Placed, coordinateAt};
-
-// The coordinates of the first places, as many as `out` holds.
-fn gather(places: &[u16], from: &[u8], out: &mut [u8])
-    requires { ⌜ (all (isPlace (length (now from))) (now places) ≡ true) × (length (now out) ≤ length (now places)) ⌝ }
-    ensures { λ _. ⌜ now (out .exit) ≡ table (coordinateAt (now (from .entry)) (now (places .entry))) (length (now (out .entry))) ⌝ }
-{
-    let mut i = 0;
-    while i < out.len() {
-        let place = places[i];
-        out[i] = from[index_of(Place(place))];
-        i += 1;
-    }
-}
+ghost use Rattle.solving.specs.Given.{Placed};
 
 // L of all points but the last is zero there. Two arrays are lent for the pair.
 fn zero_at_last(
@@ -51,7 +35,7 @@ fn zero_at_last(
 {
     let last = xs.len() - 1;
     let n = run_pair(m, powers, logs, xs, ys, last, l, u);
-    zero_in(last, l, u, n)
+    zero_chosen(MessageIndex(last), l, u, n)
 }
 
 // L of the first k − 1 places is zero at the k-th. Arrays are lent for the coordinates and for the pair.

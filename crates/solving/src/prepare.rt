@@ -1,43 +1,19 @@
 // What the operations with symbols have in common: the tests from number 9 to 12, and the function that is solved for.
 use crate::solve::solve;
+use crate::tests::test_lists;
 use basics::Answer;
 use basics::Refusal;
-use code::lists::all_below;
-use code::lists::all_different;
-use code::lists::all_places;
 use codewords::Parameters;
 use field::logarithms;
 use field::powers;
-use field::size;
 ghost use mathlib.Core.Path.{_≡_};
 ghost use Prim.Native.Nat.{_≤_};
 ghost use lib.ListN.{length};
 ghost use Rattle.basics.specs.declared.Answer.the-variants.{Done};
 ghost use Rattle.codewords.specs.Code.{codeOf, codeAnswer};
 ghost use Rattle.solving.specs.Given.{Prepared, HoldsFunction};
-ghost use Rattle.solving.specs.Tests.{listsAnswer};
 
-// The answer of the tests of places and symbols.
-pub fn test_lists(p: Parameters, xs: &[u8], ys: &[u8], places: &[u16], symbols: &[u8]) -> Answer
-    requires { ⌜ codeAnswer (codeOf p (now xs) (now ys)) ≡ Done ⌝ }
-    ensures { λ r. ⌜ r ≡ listsAnswer (codeOf p (now (xs .entry)) (now (ys .entry))) (now (places .entry)) (now (symbols .entry)) ⌝ }
-{
-    if !all_places(xs.len(), places) {
-        return Answer::Refused(Refusal::Place);
-    }
-    if !all_different(places) {
-        return Answer::Refused(Refusal::RepeatedPlace);
-    }
-    if !all_below(size(p.field), symbols) {
-        return Answer::Refused(Refusal::Symbol);
-    }
-    if places.len() < p.k {
-        return Answer::Refused(Refusal::TooFew);
-    }
-    Answer::Done
-}
-
-// The answer of these and of number 12; where it is Done, the function stands in f.
+// The answer of the tests; where it is Done, the function stands in f.
 pub fn prepare(
     p: Parameters,
     xs: &[u8],

@@ -1,6 +1,6 @@
 // What Systematic word and Rebuild have in common: the tests from number 9 to 12, and the values of the function that is solved for.
-use crate::prepare::test_lists;
 use crate::solve_word::solve_word;
+use crate::tests::test_lists;
 use basics::Answer;
 use basics::Refusal;
 use codewords::Parameters;

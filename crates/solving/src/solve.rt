@@ -1,10 +1,13 @@
 // The function that takes the symbols at k places: at the first k or, where these are dependent, with the next in place of the last.
-use crate::look::last_index;
-use crate::look::zero_at;
+use crate::last_index::last_index;
+use crate::zero::zero_at;
+use basics::MessageIndex;
 use basics::Place;
 use codewords::Parameters;
 use engine::pair::Lengths;
 use engine::pair::extend;
+use engine::places::chosen_place;
+use engine::places::message_symbol;
 use engine::places::point_at;
 use interpolation::interpolate::finish;
 use interpolation::interpolate::run;
@@ -65,16 +68,17 @@ fn solve_in(
 {
     let m = p.field;
     let k = p.k;
-    let n = run(m, powers, logs, xs, ys, places, symbols, k - 1, l, u, f);
-    let place = places[k - 1];
-    let zero = zero_at(m, powers, logs, xs, ys, Place(place), l, u, n.pair);
+    let count = k - 1;
+    let n = run(m, powers, logs, xs, ys, places, symbols, count, l, u, f);
+    let place = chosen_place(places, MessageIndex(count));
+    let zero = zero_at(m, powers, logs, xs, ys, place, l, u, n.pair);
     let last = last_index(k, zero);
-    if last == places.len() {
+    if last.0 == places.len() {
         return false;
     }
-    let at = places[last];
-    let v = symbols[last];
-    finish_at(m, powers, logs, xs, ys, Place(at), v, k, l, u, f, n);
+    let at = chosen_place(places, last);
+    let v = message_symbol(symbols, last);
+    finish_at(m, powers, logs, xs, ys, at, v, k, l, u, f, n);
     true
 }
 

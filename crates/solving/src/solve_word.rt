@@ -1,41 +1,33 @@
 // What src/solve.rt solves for, by its values at all points.
-use crate::look::last_index;
+use crate::last_index::last_index;
+use crate::zero::zero_in;
+use basics::MessageIndex;
 use basics::Place;
 use codewords::Parameters;
 use engine::pair::Sizes;
+use engine::places::chosen_place;
+use engine::places::index_of;
+use engine::places::message_symbol;
 use engine::slices::add_scaled;
 use field::quotient;
-use values::run::index_of;
 use values::run::run;
 ghost use mathlib.Core.Path.{_≡_};
 ghost use mathlib.Core.Bool.{cond};
-ghost use Prim.Native.Nat.{_-_, _<_};
-ghost use lib.Dec.{eqb};
-ghost use lib.ListN.{length, getD};
+ghost use Prim.Native.Nat.{_-_, _<_, _≤_};
+ghost use lib.ListN.{length};
 ghost use Rattle.field.specs.Galois.{galois};
 ghost use Rattle.field.specs.Tables.{Tables};
 ghost use Rattle.elliptic.specs.Pair.{addScaled};
 ghost use Rattle.codewords.specs.Code.{codeOf};
 ghost use Rattle.solving.specs.Given.{Posed, Solving, solvedWord, missing};
 
-// L is zero at the point with index j.
-pub fn zero_in(j: usize, l: &[u8], u: &[u8], n: Sizes) -> bool
-    requires { ⌜ (j < length (now l)) × (j < length (now u)) ⌝ }
-    ensures { λ r. ⌜ r ≡ eqb (getD (cond (n .turned) (now (u .entry)) (now (l .entry))) j 0) 0 ⌝ }
-{
-    let turned = n.turned;
-    if turned {
-        return u[j] == 0;
-    }
-    l[j] == 0
-}
-
-// F, in f, gains the multiple of L, in l, that makes it v at the point with index j.
-fn correct(m: u8, powers: &[u8; 255], logs: &[u8; 256], j: usize, v: u8, l: &[u8], f: &mut [u8])
+// F, in f, gains the multiple of L, in l, that makes it v at the place.
+fn correct(m: u8, powers: &[u8; 255], logs: &[u8; 256], place: Place, v: u8, l: &[u8], f: &mut [u8])
     requires { ⌜ Tables m (now powers) (now logs) ⌝ }
-    requires { ⌜ (j < length (now l)) × (length (now l) ≡ length (now f)) ⌝ }
-    ensures { λ _. ⌜ now (f .exit) ≡ addScaled (galois m) (missing m j v (now (l .entry)) (now (f .entry))) (now (l .entry)) (now (f .entry)) ⌝ }
+    requires { ⌜ (1 ≤ place .0) × (place .0 - 1 < length (now l)) × (length (now l) ≡ length (now f)) ⌝ }
+    ensures { λ _. ⌜ now (f .exit) ≡ addScaled (galois m) (missing m (place .0) v (now (l .entry)) (now (f .entry))) (now (l .entry)) (now (f .entry)) ⌝ }
 {
+    let j = index_of(place);
     let e = quotient(m, powers, logs, v ^ f[j], l[j]);
     add_scaled(m, powers, logs, e, l, f);
 }
@@ -45,7 +37,7 @@ fn correct_at(
     m: u8,
     powers: &[u8; 255],
     logs: &[u8; 256],
-    j: usize,
+    place: Place,
     v: u8,
     l: &[u8],
     u: &[u8],
@@ -53,15 +45,15 @@ fn correct_at(
     n: Sizes,
 )
     requires { ⌜ Tables m (now powers) (now logs) ⌝ }
-    requires { ⌜ (j < length (now f)) × (length (now l) ≡ length (now f)) × (length (now u) ≡ length (now f)) ⌝ }
-    ensures { λ _. ⌜ now (f .exit) ≡ addScaled (galois m) (missing m j v (cond (n .turned) (now (u .entry)) (now (l .entry))) (now (f .entry)))
+    requires { ⌜ (1 ≤ place .0) × (place .0 - 1 < length (now f)) × (length (now l) ≡ length (now f)) × (length (now u) ≡ length (now f)) ⌝ }
+    ensures { λ _. ⌜ now (f .exit) ≡ addScaled (galois m) (missing m (place .0) v (cond (n .turned) (now (u .entry)) (now (l .entry))) (now (f .entry)))
         (cond (n .turned) (now (u .entry)) (now (l .entry))) (now (f .entry)) ⌝ }
 {
     let turned = n.turned;
     if turned {
-        correct(m, powers, logs, j, v, u, f);
+        correct(m, powers, logs, place, v, u, f);
     } else {
-        correct(m, powers, logs, j, v, l, f);
+        correct(m, powers, logs, place, v, l, f);
     }
 }
 
@@ -85,16 +77,17 @@ fn solve_word_in(
 {
     let m = p.field;
     let k = p.k;
-    let n = run(m, powers, logs, xs, ys, places, symbols, k - 1, l, u, f);
-    let place = places[k - 1];
-    let zero = zero_in(index_of(Place(place)), l, u, n);
+    let count = k - 1;
+    let n = run(m, powers, logs, xs, ys, places, symbols, count, l, u, f);
+    let place = chosen_place(places, MessageIndex(count));
+    let zero = zero_in(place, l, u, n);
     let last = last_index(k, zero);
-    if last == places.len() {
+    if last.0 == places.len() {
         return false;
     }
-    let at = places[last];
-    let j = index_of(Place(at));
-    correct_at(m, powers, logs, j, symbols[last], l, u, f, n);
+    let at = chosen_place(places, last);
+    let v = message_symbol(symbols, last);
+    correct_at(m, powers, logs, at, v, l, u, f, n);
     true
 }
 

@@ -1,10 +1,12 @@
 // Whether what was solved for has the symbols at the places: a function, and the word of its values.
-use basics::Place;
+use basics::MessageIndex;
 use codewords::Parameters;
+use engine::places::chosen_place;
+use engine::places::index_of;
+use engine::places::message_symbol;
 use field::logarithms;
 use field::powers;
 use interpolation::write::agrees;
-use values::run::index_of;
 ghost use mathlib.Core.Path.{_≡_};
 ghost use mathlib.Core.Bool.{true};
 ghost use mathlib.Core.List.{map};
@@ -51,8 +53,9 @@ pub fn agrees_at(f: &[u8], places: &[u16], symbols: &[u8]) -> bool
 {
     let mut i = 0;
     while i < places.len() {
-        let place = places[i];
-        if f[index_of(Place(place))] != symbols[i] {
+        let index = MessageIndex(i);
+        let place = chosen_place(places, index);
+        if f[index_of(place)] != message_symbol(symbols, index) {
             return false;
         }
         i += 1;

@@ -4,7 +4,7 @@ use mathlib.Core.List.{_∷_, [], _++_}
 use Prim.Native.Nat.{suc, _≤_, _-_}
 use native.Mathlib.Numerals.{add-one}
 use native.Mathlib.Omega.{arith}
-use lib.ListN.{length, getD, take, set, length-set}
+use lib.ListN.{length, take, set, length-set}
 use lib.Seq.{take-suc, take-suc-set, take-all}
 use borrow.Author.Needs.{needs}
 use Rattle.coder.proofs.pick.write_picked.Statement.{statement}
@@ -22,14 +22,11 @@ sub-end c = search needs
 loop-holds : tie.Need-loop-holds Inv-loop μ-loop
 loop-holds c = (omega arith, refl, refl)
 
+chosen-place-requires : tie.Need-chosen-place-requires Inv-loop μ-loop
+chosen-place-requires c κs = search needs
+
 mul-out : tie.Need-mul-out Inv-loop μ-loop
 mul-out c = search needs
-
-shared-slice-read-out : tie.Need-shared-slice-read-out Inv-loop μ-loop
-shared-slice-read-out c = search needs
-
-mul-out-2 : tie.Need-mul-out-2 Inv-loop μ-loop
-mul-out-2 c = search needs
 
 slice-write-out : tie.Need-slice-write-out Inv-loop μ-loop
 slice-write-out c = search needs
@@ -45,18 +42,19 @@ loop-again c =
     let at = c .before .before in
     let i = at .loop .i in
     let out = at .loop .out in
-    let ranked = c .before .before .before .args .ranked .now in
-    let v = getD ranked i 0 in
-    (omega arith, simp length-set (at .loop .inv .1), ap (λ n. take n (set out i v)) (add-one i) ∙ take-suc-set out i v (omega arith) ∙ ap (λ l. l ++ v ∷ []) (at .loop .inv .2) ∙ sym (take-suc ranked i 0 (omega arith)) ∙ ap (λ n. take n ranked) (sym (add-one i)))
+    let ranked = c .before .before .before .before .before .args .ranked .now in
+    let v = c .chosen-place .result .0 in (
+      omega arith,
+      simp length-set (at .loop .inv .1),
+      ap (λ n. take n (set out i v)) (add-one i) ∙ take-suc-set out i v (omega arith) ∙ ap (λ l. l ++ v ∷ []) (at .loop .inv .2)
+          ∙ ap (λ v. take i ranked ++ v ∷ []) (c .chosen-place .ensures) ∙ sym (take-suc ranked i 0 (omega arith)) ∙ ap (λ n. take n ranked) (sym (add-one i)),
+    )
 
-mul-out-3 : tie.Need-mul-out-3 Inv-loop μ-loop
-mul-out-3 c = search needs
+chosen-place-requires-2 : tie.Need-chosen-place-requires-2 Inv-loop μ-loop
+chosen-place-requires-2 c κs = search needs
 
-shared-slice-read-out-2 : tie.Need-shared-slice-read-out-2 Inv-loop μ-loop
-shared-slice-read-out-2 c = search needs
-
-mul-out-4 : tie.Need-mul-out-4 Inv-loop μ-loop
-mul-out-4 c = search needs
+mul-out-2 : tie.Need-mul-out-2 Inv-loop μ-loop
+mul-out-2 c = search needs
 
 slice-write-out-2 : tie.Need-slice-write-out-2 Inv-loop μ-loop
 slice-write-out-2 c = search needs
@@ -67,13 +65,13 @@ same-length c = simp length-set (c .before .before .loop .inv .1)
 returns : tie.Need-returns Inv-loop μ-loop
 returns c =
     let at = c .before .before in
-    let a = c .before .before .before .args in
+    let a = c .before .before .before .before .before .args in
     let end = length (a .out .now) - 1 in
     let out = at .loop .out in
-    let v = getD (a .ranked .now) (a .last) 0 in
+    let v = c .chosen-place2 .result .0 in
     let full : at .loop .i ≡ end = omega arith in
     sym (take-all (suc end) (set out end v) (simp length-set (omega arith))) ∙ take-suc-set out end v (omega arith)
-    ∙ ap (λ l. l ++ v ∷ []) (rw full at (at .loop .inv .2))
+    ∙ ap (λ l. l ++ v ∷ []) (rw full at (at .loop .inv .2)) ∙ ap (λ v. take end (a .ranked .now) ++ v ∷ []) (c .chosen-place2 .ensures)
 
 pub write-picked-spec : {M : Type 1} → statement M
 write-picked-spec =
@@ -83,16 +81,14 @@ write-picked-spec =
     μ-loop
     sub-end
     loop-holds
+    chosen-place-requires
     mul-out
-    shared-slice-read-out
-    mul-out-2
     slice-write-out
     add-i
     loop-less
     loop-again
-    mul-out-3
-    shared-slice-read-out-2
-    mul-out-4
+    chosen-place-requires-2
+    mul-out-2
     slice-write-out-2
     same-length
     returns)

@@ -43,8 +43,8 @@ returns c =
     let at = c .before .before .before in
     posed-go _ _ _ (passed at) _ (refuse _ (agreed-by _ _ _ (s .pre .0) (enough _ _ _ (passed at) (s .pre .0) (s .pre .1 .0)) (holds at) (c .before .agrees-at .ensures) ∙ not-true _ (c .if1 .taken)))
 
-write-function-requires : tie.Need-write-function-requires
-write-function-requires c κs = let s = c .before .before .before .before .before .before .before .before .before .before .before .before .before .before .before .before .before .before in (omega (arith, c .before .before .before .before .before .before .before .before .before .prepare-word .kept .1 .1 .1 .1 .1 .0, s .pre .1 .3), omega (arith, s .pre .1 .1))
+copy-requires : tie.Need-copy-requires
+copy-requires c κs = let s = c .before .before .before .before .before .before .before .before .before .before .before .before .before .before .before .before .before .before in (omega (arith, c .before .before .before .before .before .before .before .before .before .prepare-word .kept .1 .1 .1 .1 .1 .0, s .pre .1 .3), omega (arith, s .pre .1 .1))
 
 clear-room-requires : tie.Need-clear-room-requires
 clear-room-requires c κs = let s = c .before .before .before .before .before .before .before .before .before .before .before .before .before .before .before .before .before .before .before .before .before .before in s .pre .1 .2
@@ -63,11 +63,12 @@ returns-2 c =
     let s = c .before .before .before .before .before .before .before .before .before .before .before .before .before .before .before .before .before .before .before .before .before .before .before .before .before in
     let at = c .before .before .before .before .before .before .before .before .before .before .before .before in
     let v = c .before .before .before .before .before .before .before .before .before .before .before .before .before .before .before .before .prepare-word in
+    let w = c .before .before .before .before .before .before .copy in
     let t = agreed-by _ _ _ (s .pre .0) (enough _ _ _ (passed at) (s .pre .0) (s .pre .1 .0)) (holds at) (c .before .before .before .before .before .before .before .before .before .before .agrees-at .ensures) ∙ not-false _ (c .before .before .before .before .before .before .before .before .before .if1 .left) in
     posed-go _ _ _ (passed at) _
     (pass _ t
     (accept-pair
-    (c .before .before .before .before .before .before .write-function .ensures ∙ whole-word (v .last .1 .1 .1 .1 .1 .0) (v .kept .1 .1 .1 .1 .1 .0 ∙ s .pre .1 .3) (s .pre .1 .1) ∙ rebuilt _ _ _ (s .pre .0) (enough _ _ _ (passed at) (s .pre .0) (s .pre .1 .0)) (holds at) t)
+    (whole-word (v .kept .1 .1 .1 .1 .1 .0 ∙ s .pre .1 .3) (w .kept .1 .1 .0 ∙ s .pre .1 .1) (w .ensures) ∙ rebuilt _ _ _ (s .pre .0) (enough _ _ _ (passed at) (s .pre .0) (s .pre .1 .0)) (holds at) t)
     (c .before .before .clear-room .ensures)))
 
 same-length-5 : tie.Need-same-length-5
@@ -85,7 +86,7 @@ rebuild-run-spec =
     agrees-at-requires
     same-length
     returns
-    write-function-requires
+    copy-requires
     clear-room-requires
     same-length-2
     same-length-3

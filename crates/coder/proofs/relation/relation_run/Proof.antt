@@ -26,11 +26,8 @@ run-pair-requires c κs =
     let pre = c .before .before .before .before .before .before .before .before .before .before .pre in
     (pre .0, (may-run (pre .1 .0) [] (no-symbols _) _ (omega arith) (omega (arith, pre .1 .2)), pre .1 .1))
 
-mul-place : tie.Need-mul-place
-mul-place c = omega (arith, accepted (c .before .before .before .before .before .before .before .before .before .before .before .before .before .before .before .pre .1 .0) .k-most, accepted (c .before .before .before .before .before .before .before .before .before .before .before .before .before .before .before .pre .1 .0) .n-most)
-
-shared-slice-read-place : tie.Need-shared-slice-read-place
-shared-slice-read-place c = omega (arith, c .before .before .before .before .before .before .before .before .before .before .before .before .before .before .before .before .pre .1 .2, accepted (c .before .before .before .before .before .before .before .before .before .before .before .before .before .before .before .before .pre .1 .0) .k-least)
+chosen-place-requires : tie.Need-chosen-place-requires
+chosen-place-requires c κs = let pre = c .before .before .before .before .before .before .before .before .before .before .before .before .before .before .before .pre in omega (arith, pre .1 .2, accepted (pre .1 .0) .k-least)
 
 -- the pair has room where it stands
 has-room : (c : tie.After-run-pair) → let r = c .run-pair in Room (r .last .1 .1 .1 .1 .1 .1 .1 .0) (r .last .1 .1 .1 .1 .1 .1 .1 .1 .0) (r .result)
@@ -44,14 +41,14 @@ zero-at-requires : tie.Need-zero-at-requires
 zero-at-requires c κs =
     let pre = c .before .before .before .before .before .before .before .before .before .before .before .before .before .before .before .before .before .before .pre in
     let p = pre .1 .0 in
-    (pre .0, (within p (c .before .before .before .before .before .before .before .before .before .before .before .before .before .before .before .before .before .before .args .p .k) (omega (arith, pre .1 .2)) .is-place _ (omega (arith, accepted p .k-least)), has-room (c .before .before .before .before .before .before .before)))
+    (pre .0, (rw (c .before .before .chosen-place .ensures) (within p (c .before .before .before .before .before .before .before .before .before .before .before .before .before .before .before .before .before .before .args .p .k) (omega (arith, pre .1 .2)) .is-place _ (omega (arith, accepted p .k-least))), has-room (c .before .before .before .before .before .before .before)))
 
 -- what L says of the places
 says : (c : tie.After-zero-at) → let s = c .before .before .before .before .before .before .before .before .before .before .before .before .before .before .before .before .before .before .before in dependent (codeOf (s .args .p) (s .args .xs .now) (s .args .ys .now)) (s .args .places .now) ≡ c .zero-at .result
 says c =
     let pre = c .before .before .before .before .before .before .before .before .before .before .before .before .before .before .before .before .before .before .before .pre in
     let p = pre .1 .0 in
-    is-dependent p [] (no-symbols _) (pre .1 .2) (zero-last p [] (no-symbols _) (omega (arith, pre .1 .2)) (c .before .before .before .before .before .before .before .before .run-pair .ensures) (c .zero-at .ensures))
+    is-dependent p [] (no-symbols _) (pre .1 .2) (zero-last p [] (no-symbols _) (omega (arith, pre .1 .2)) (c .before .before .before .before .before .before .before .before .run-pair .ensures) (c .before .before .before .chosen-place .ensures) (c .zero-at .ensures))
 
 same-length : tie.Need-same-length
 same-length c = search needs
@@ -98,8 +95,7 @@ relation-run-spec =
     (tie.spec
     sub-last
     run-pair-requires
-    mul-place
-    shared-slice-read-place
+    chosen-place-requires
     zero-at-requires
     same-length
     same-length-2

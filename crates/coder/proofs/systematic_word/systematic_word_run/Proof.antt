@@ -5,6 +5,7 @@ use native.Mathlib.Omega.{arith}
 use Rattle.basics.specs.declared.Answer.the-variants.{Done}
 use Rattle.basics.proofs.Outcomes.{accept-pair}
 use Rattle.codewords.specs.Code.{codeOf}
+use Rattle.codewords.proofs.Accepted.{accepted-done}
 use Rattle.solving.specs.Given.{solvedWord}
 use Rattle.solving.specs.Tests.{posedAnswer}
 use Rattle.solving.proofs.Chains.{posed-go, posed-stop, enough}
@@ -26,8 +27,8 @@ passed c = sym (c .before .before .before .before .prepare-word .ensures .answer
 holds : (c : tie.After-enum-told) → let a = c .before .before .before .before .before .before .before .before .before .before .before .before .before .args in c .before .before .before .before .prepare-word .last .1 .1 .1 .1 .1 .0 ≡ solvedWord (codeOf (a .p) (a .xs .now) (a .ys .now)) (a .places .now) (a .symbols .now)
 holds c = c .before .before .before .before .prepare-word .ensures .holds (c .enum-told .given .1)
 
-write-function-requires : tie.Need-write-function-requires
-write-function-requires c κs = let s = c .before .before .before .before .before .before .before .before .before .before .before .before .before .before .before in (omega (arith, c .before .before .before .before .before .before .prepare-word .kept .1 .1 .1 .1 .1 .0, s .pre .1 .4), omega (arith, s .pre .1 .2))
+copy-requires : tie.Need-copy-requires
+copy-requires c κs = let s = c .before .before .before .before .before .before .before .before .before .before .before .before .before .before .before in (omega (arith, c .before .before .before .before .before .before .prepare-word .kept .1 .1 .1 .1 .1 .0, s .pre .1 .3, s .pre .1 .4, accepted-done _ (s .pre .0) .n-most), omega (arith, s .pre .1 .2))
 
 clear-room-requires : tie.Need-clear-room-requires
 clear-room-requires c κs = let s = c .before .before .before .before .before .before .before .before .before .before .before .before .before .before .before .before .before .before .before in s .pre .1 .3
@@ -46,9 +47,10 @@ returns c =
     let s = c .before .before .before .before .before .before .before .before .before .before .before .before .before .before .before .before .before .before .before .before .before .before in
     let at = c .before .before .before .before .before .before .before .before .before in
     let v = c .before .before .before .before .before .before .before .before .before .before .before .before .before .prepare-word in
+    let w = c .before .before .before .before .before .before .copy in
     posed-go _ _ _ (passed at) _
     (accept-pair
-    (c .before .before .before .before .before .before .write-function .ensures ∙ whole-word (v .last .1 .1 .1 .1 .1 .0) (v .kept .1 .1 .1 .1 .1 .0 ∙ s .pre .1 .4) (s .pre .1 .2) ∙ the-word _ _ _ (s .pre .0) (enough _ _ _ (passed at) (s .pre .0) (s .pre .1 .1 ∙ sym (s .pre .1 .0))) (s .pre .1 .0) (holds at))
+    (whole-word (v .kept .1 .1 .1 .1 .1 .0 ∙ s .pre .1 .4) (w .kept .1 .1 .0 ∙ s .pre .1 .2) (w .ensures) ∙ the-word _ _ _ (s .pre .0) (enough _ _ _ (passed at) (s .pre .0) (s .pre .1 .1 ∙ sym (s .pre .1 .0))) (s .pre .1 .0) (holds at))
     (c .before .before .clear-room .ensures))
 
 same-length-4 : tie.Need-same-length-4
@@ -63,7 +65,7 @@ systematic-word-run-spec =
     (tie.spec
     prepare-word-requires
     enum-told
-    write-function-requires
+    copy-requires
     clear-room-requires
     same-length
     same-length-2

@@ -17,8 +17,8 @@ begin-rows-requires c κs = search needs
 sub-last : tie.Need-sub-last
 sub-last c = omega (arith, accepted (c .before .before .before .before .before .before .before .before .before .before .before .before .before .before .before .before .before .before .before .before .before .before .before .before .before .before .pre .1 .0) .k-least)
 
-zero-in-requires : tie.Need-zero-in-requires
-zero-in-requires c κs =
+zero-chosen-requires : tie.Need-zero-chosen-requires
+zero-chosen-requires c κs =
     let pre = c .before .before .before .before .before .before .before .before .before .before .before .before .before .before .before .before .before .before .before .before .before .before .before .before .before .before .before .before .pre .1 in
     let a = accepted (pre .0) in
     let k = c .before .before .before .before .before .before .before .before .before .before .before .before .begin-rows .kept in
@@ -43,7 +43,7 @@ returns : tie.Need-returns
 returns c =
     let pre = c .before .before .before .before .before .before .before .before .before .before .before .before .before .before .before .before .before .before .before .before .before .before .before .before .before .before .before .before .before .before .pre .1 in
     let b = c .before .before .before .before .before .before .before .before .before .before .before .before .before .before .begin-rows .ensures in
-    refuse _ (decides (pre .0) (pre .1) b (c .before .zero-in .ensures) ∙ ap not (c .if1 .taken))
+    refuse _ (decides (pre .0) (pre .1) b (c .before .zero-chosen .ensures) ∙ ap not (c .if1 .taken))
 
 rows-turn-requires : tie.Need-rows-turn-requires
 rows-turn-requires c κs =
@@ -113,7 +113,7 @@ returns-2 c =
     let pre = s .pre .1 in
     let b = c .before .before .before .before .before .before .before .before .before .before .before .before .before .before .before .before .before .before .before .before .before .before .before .before .before .before .before .before .before .before .before .before .before .before .before .before .before .before .before .before .begin-rows .ensures in
     let w = c .before .before .before .before .write-rows .ensures in
-    let works = decides (pre .0) (pre .1) b (c .before .before .before .before .before .before .before .before .before .before .before .before .before .before .before .before .before .before .before .before .before .before .before .before .before .before .before .zero-in .ensures) ∙ ap not (c .before .before .before .before .before .before .before .before .before .before .before .before .before .before .before .before .before .before .before .before .before .before .before .before .before .before .if1 .left) in
+    let works = decides (pre .0) (pre .1) b (c .before .before .before .before .before .before .before .before .before .before .before .before .before .before .before .before .before .before .before .before .before .before .before .before .before .before .before .zero-chosen .ensures) ∙ ap not (c .before .before .before .before .before .before .before .before .before .before .before .before .before .before .before .before .before .before .before .before .before .before .before .before .before .before .if1 .left) in
     pass _ works (accept-pair (w .0 ∙ completes (pre .0) (pre .1) b works (c .before .before .before .before .before .before .before .before .before .before .before .before .before .before .before .before .before .before .before .before .rows-turn .ensures .1)) (w .1))
 
 pub matrix-in-spec : {M : Type 1} → statement M
@@ -122,7 +122,7 @@ matrix-in-spec =
     (tie.spec
     begin-rows-requires
     sub-last
-    zero-in-requires
+    zero-chosen-requires
     same-length
     same-length-2
     same-length-3

@@ -1,50 +1,37 @@
 -- The places are tested, and then Matrix has different places.
 use mathlib.Core.Path.{_≡_, sym, _∙_}
-use mathlib.Core.Bool.{true}
-use borrow.Author.Tests.{not-true, not-false}
-use Rattle.basics.proofs.Outcomes.{pass, refuse}
-use Rattle.codewords.specs.Code.{codeOf}
-use Rattle.codewords.specs.Codewords.{allPlaces, placesDiffer}
+use mathlib.Core.Logic.{⊎-elim}
+use native.Mathlib.Omega.{arith}
+use lib.ListN.{length}
+use Rattle.basics.specs.declared.Answer.the-variants.{Done}
 use Rattle.codewords.proofs.Accepted.{accepted-done}
-use Rattle.solving.specs.Given.{Placed}
-use Rattle.solving.proofs.Link.{places-below}
+use Rattle.solving.specs.Tests.{placesAnswer}
+use Rattle.solving.proofs.Chains.{places-go, places-stop, are-placed}
 use borrow.Author.Needs.{needs}
 use Rattle.matrix.proofs.operation.matrix_placed.Statement.{statement}
 use Rattle.matrix.proofs.operation.matrix_placed.Tie as tie
 
-all-places-requires : tie.Need-all-places-requires
-all-places-requires c κs = search needs
+test-places-requires : tie.Need-test-places-requires
+test-places-requires c κs = accepted-done _ (c .before .before .before .before .before .pre .0) .n-most
 
-places-ok : (c : tie.Else1) → let s = c .before .before .before .before .before .before .before in allPlaces (codeOf (s .args .p) (s .args .xs .now) (s .args .ys .now)) (s .args .places .now) ≡ true
-unfolding allPlaces
-places-ok c = sym (c .before .all-places .ensures) ∙ not-false _ (c .if1 .left)
+enum-told : tie.Need-enum-told
+enum-told c = search needs
 
-placed : (c : tie.Else2) → let s = c .before .before .before .before .before .before .before .before .before in Placed (codeOf (s .args .p) (s .args .xs .now) (s .args .ys .now)) (s .args .places .now)
-unfolding placesDiffer
-placed c = record { done = c .before .before .before .before .before .before .before .before .before .pre .0; all-places = places-ok (c .before .before); differ = sym (c .before .all-different .ensures) ∙ not-false _ (c .if2 .left) }
-
-returns : tie.Need-returns
-unfolding allPlaces
-returns c = refuse _ (sym (c .before .all-places .ensures) ∙ not-true _ (c .if1 .taken))
-
-all-different-requires : tie.Need-all-different-requires
-all-different-requires c κs = places-below _ _ (c .before .before .before .before .before .before .before .pre .0) (places-ok c)
-
-returns-2 : tie.Need-returns-2
-unfolding placesDiffer
-returns-2 c = pass _ (places-ok (c .before .before)) (refuse _ (sym (c .before .all-different .ensures) ∙ not-true _ (c .if2 .taken)))
+-- the tests were passed
+passed : (c : tie.After-enum-told) → let a = c .before .before .before .before .before .before .before .before .args in placesAnswer (length (a .xs .now)) (a .places .now) ≡ Done
+passed c = sym (c .before .before .test-places .ensures) ∙ c .enum-told .given .1
 
 powers-requires : tie.Need-powers-requires
-powers-requires c κs = accepted-done _ (c .before .before .before .before .before .before .before .before .before .pre .0) .field
+powers-requires c κs = accepted-done _ (c .before .before .before .before .before .before .before .before .pre .0) .field
 
 logarithms-requires : tie.Need-logarithms-requires
-logarithms-requires c κs = accepted-done _ (c .before .before .before .before .before .before .before .before .before .before .before .pre .0) .field
+logarithms-requires c κs = accepted-done _ (c .before .before .before .before .before .before .before .before .before .before .pre .0) .field
 
 matrix-run-requires : tie.Need-matrix-run-requires
 matrix-run-requires c κs =
-    let pre = c .before .before .before .before .before .before .before .before .before .before .before .before .before .before .before .pre in (
+    let pre = c .before .before .before .before .before .before .before .before .before .before .before .before .before .before .pre in (
       record { field = accepted-done _ (pre .0) .field; is-powers = c .before .before .before .before .before .powers .ensures; is-logs = c .before .before .before .logarithms .ensures },
-      (placed (c .before .before .before .before .before .before), pre .1 .0, pre .1 .1, pre .1 .2),
+      (are-placed _ _ (passed (c .before .before .before .before .before .before)) (pre .0), pre .1 .0, pre .1 .1, pre .1 .2),
     )
 
 same-length : tie.Need-same-length
@@ -53,20 +40,22 @@ same-length c = search needs
 same-length-2 : tie.Need-same-length-2
 same-length-2 c = search needs
 
-returns-3 : tie.Need-returns-3
-returns-3 c = let p = placed (c .before .before .before .before .before .before .before .before .before .before .before) in pass _ (p .all-places) (pass _ (p .differ) (c .before .before .before .before .matrix-run .ensures))
+returns : tie.Need-returns
+returns c = places-go _ _ (passed (c .before .before .before .before .before .before .before .before .before .before .before)) _ (c .before .before .before .before .matrix-run .ensures)
+
+returns-2 : tie.Need-returns-2
+returns-2 c = places-stop _ _ _ (c .before .test-places .ensures) (λ d. ⊎-elim (λ e. omega (arith, e)) (λ e. omega (arith, e)) (rw d at (c .match .keys2)))
 
 pub matrix-placed-spec : {M : Type 1} → statement M
 matrix-placed-spec =
     tie.close
     (tie.spec
-    all-places-requires
-    returns
-    all-different-requires
-    returns-2
+    test-places-requires
+    enum-told
     powers-requires
     logarithms-requires
     matrix-run-requires
     same-length
     same-length-2
-    returns-3)
+    returns
+    returns-2)

@@ -2,18 +2,18 @@
 use mathlib.Core.Path.{refl, sym, _∙_, ap}
 use native.Mathlib.Omega.{arith}
 use Rattle.basics.specs.Lists.{table}
-use Rattle.solving.specs.Given.{coordinateAt}
-use Rattle.solving.proofs.Link.{accepted, all-in}
+use Rattle.engine.specs.Places.{coordinateAt}
+use Rattle.solving.proofs.Link.{accepted, are-chosen}
 use Rattle.solving.proofs.Gathered.{gathered-coordinates, gathered-runs, gathered-zero}
 use borrow.Author.Needs.{needs}
 use Rattle.solving.proofs.last_zero.last_zero_in.Statement.{statement}
 use Rattle.solving.proofs.last_zero.last_zero_in.Tie as tie
 
 gather-requires : tie.Need-gather-requires
-gather-requires c κs = let s = c .before .before .before .before .before .before .before .before in (all-in (s .pre .1 .0 .0) (s .args .xs .now) refl, omega (arith, s .pre .1 .1 .0, s .pre .1 .0 .1))
+gather-requires c κs = let s = c .before .before .before .before .before .before .before .before in are-chosen (s .pre .1 .0 .0) (s .args .xs .now) refl _ (omega (arith, s .pre .1 .1 .0, s .pre .1 .0 .1))
 
 gather-requires-2 : tie.Need-gather-requires-2
-gather-requires-2 c κs = let s = c .before .before .before .before .before .before .before .before .before .before .before .before in (all-in (s .pre .1 .0 .0) (s .args .ys .now) (sym (accepted (s .pre .1 .0 .0) .lengths)), omega (arith, s .pre .1 .1 .1, s .pre .1 .0 .1))
+gather-requires-2 c κs = let s = c .before .before .before .before .before .before .before .before .before .before .before .before in are-chosen (s .pre .1 .0 .0) (s .args .ys .now) (sym (accepted (s .pre .1 .0 .0) .lengths)) _ (omega (arith, s .pre .1 .1 .1, s .pre .1 .0 .1))
 
 zero-at-last-requires : tie.Need-zero-at-last-requires
 zero-at-last-requires c κs =

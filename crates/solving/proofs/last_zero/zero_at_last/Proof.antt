@@ -14,8 +14,8 @@ sub-last c = search needs
 run-pair-requires : tie.Need-run-pair-requires
 run-pair-requires c κs = search needs
 
-zero-in-requires : tie.Need-zero-in-requires
-zero-in-requires c κs = search needs
+zero-chosen-requires : tie.Need-zero-chosen-requires
+zero-chosen-requires c κs = search needs
 
 same-length : tie.Need-same-length
 same-length c = search needs
@@ -26,9 +26,9 @@ same-length-2 c = search needs
 returns : tie.Need-returns
 returns c =
     let s = c .before .before .before .before .before .before .before .before .before .before .before .before .before .before in
-    c .zero-in .ensures ∙ ap (λ v. eqb v 0) (c .before .before .before .before .before .before .before .run-pair .ensures .low-values .at (length (s .args .xs .now) - 1) (omega arith) (omega (arith, s .pre .1 .1 .1)))
+    c .zero-chosen .ensures ∙ ap (λ v. eqb v 0) (c .before .before .before .before .before .before .before .run-pair .ensures .low-values .at (length (s .args .xs .now) - 1) (omega arith) (omega (arith, s .pre .1 .1 .1)))
 
 pub zero-at-last-spec : {M : Type 1} → statement M
 zero-at-last-spec =
     tie.close
-    (tie.spec sub-last run-pair-requires zero-in-requires same-length same-length-2 returns)
+    (tie.spec sub-last run-pair-requires zero-chosen-requires same-length same-length-2 returns)

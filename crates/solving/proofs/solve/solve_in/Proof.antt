@@ -9,14 +9,14 @@ use Rattle.codewords.specs.Computed.{lastZero, pointsOf}
 use Rattle.engine.specs.Arrays.{Room, WordRoom}
 use Rattle.engine.proofs.States.{room, word-room}
 use Rattle.solving.proofs.Link.{accepted, within, may-run, small, sizes, zero-last}
-use Rattle.solving.proofs.Free.{index-most, not-free, index-lt}
+use Rattle.solving.proofs.Free.{not-free, index-lt}
 use Rattle.solving.proofs.Interpolant.{unsolved, solves}
 use borrow.Author.Needs.{needs}
 use Rattle.solving.proofs.solve.solve_in.Statement.{statement}
 use Rattle.solving.proofs.solve.solve_in.Tie as tie
 
-sub-run : tie.Need-sub-run
-sub-run c = omega (arith, accepted (c .before .before .before .before .before .before .before .pre .1 .0 .placed) .k-least)
+sub-count : tie.Need-sub-count
+sub-count c = omega (arith, accepted (c .before .before .before .before .before .before .before .pre .1 .0 .placed) .k-least)
 
 run-requires : tie.Need-run-requires
 run-requires c κs =
@@ -24,14 +24,8 @@ run-requires c κs =
     let g = pre .1 .0 in
     (pre .0, (may-run (g .placed) _ (g .are-symbols) _ (omega arith) (omega (arith, g .at-least)), pre .1 .1, omega (arith, g .lengths, g .at-least), pre .1 .2))
 
-sub-place : tie.Need-sub-place
-sub-place c = omega (arith, accepted (c .before .before .before .before .before .before .before .before .before .before .before .before .before .before .before .before .before .pre .1 .0 .placed) .k-least)
-
-mul-place : tie.Need-mul-place
-mul-place c = let p = c .before .before .before .before .before .before .before .before .before .before .before .before .before .before .before .before .before .pre .1 .0 .placed in omega (arith, accepted p .k-most, accepted p .n-most)
-
-shared-slice-read-place : tie.Need-shared-slice-read-place
-shared-slice-read-place c = let g = c .before .before .before .before .before .before .before .before .before .before .before .before .before .before .before .before .before .before .pre .1 .0 in omega (arith, g .at-least, accepted (g .placed) .k-least)
+chosen-place-requires : tie.Need-chosen-place-requires
+chosen-place-requires c κs = let g = c .before .before .before .before .before .before .before .before .before .before .before .before .before .before .before .before .before .pre .1 .0 in omega (arith, g .at-least, accepted (g .placed) .k-least)
 
 -- the pair and the interpolant have room where they stand
 has-room : (c : tie.After-run)
@@ -51,13 +45,13 @@ zero-at-requires : tie.Need-zero-at-requires
 zero-at-requires c κs =
     let pre = c .before .before .before .before .before .before .before .before .before .before .before .before .before .before .before .before .before .before .before .before .pre in
     let g = pre .1 .0 in
-    (pre .0, (within (g .placed) _ (g .at-least) .is-place _ (omega (arith, accepted (g .placed) .k-least)), has-room (c .before .before .before .before .before .before .before .before .before) .0))
+    (pre .0, (rw (c .before .before .chosen-place .ensures) (within (g .placed) _ (g .at-least) .is-place _ (omega (arith, accepted (g .placed) .k-least))), has-room (c .before .before .before .before .before .before .before .before .before) .0))
 
 -- whether L is zero at the k-th place
 says : (c : tie.After-zero-at)
     → let a = c .before .before .before .before .before .before .before .before .before .before .before .before .before .before .before .before .before .before .before .before .before .args in
     c .zero-at .result ≡ lastZero (arithmetic (codeOf (a .p) (a .xs .now) (a .ys .now))) (a .p .k) (pointsOf (codeOf (a .p) (a .xs .now) (a .ys .now)) (a .places .now)) (a .symbols .now)
-says c = let g = c .before .before .before .before .before .before .before .before .before .before .before .before .before .before .before .before .before .before .before .before .before .pre .1 .0 in zero-last (g .placed) _ (g .are-symbols) (g .at-least) (c .before .before .before .before .before .before .before .before .before .before .run .ensures .pair) (c .zero-at .ensures)
+says c = let g = c .before .before .before .before .before .before .before .before .before .before .before .before .before .before .before .before .before .before .before .before .before .pre .1 .0 in zero-last (g .placed) _ (g .are-symbols) (g .at-least) (c .before .before .before .before .before .before .before .before .before .before .run .ensures .pair) (c .before .before .before .chosen-place .ensures) (c .zero-at .ensures)
 
 last-index-requires : tie.Need-last-index-requires
 last-index-requires c κs = accepted (c .before .before .before .before .before .before .before .before .before .before .before .before .before .before .before .before .before .before .before .before .before .pre .1 .0 .placed) .k-least
@@ -73,36 +67,33 @@ same-length-3 c = search needs
 
 returns : tie.Need-returns
 returns c =
-    let g = c .before .before .before .before .before .before .before .before .before .before .before .before .before .before .before .before .before .before .before .before .before .before .before .pre .1 .0 in
-    unsolved (not-free (g .placed) _ (g .are-symbols) (g .at-least) (says (c .before .before)) (sym (c .before .last-index .ensures) ∙ c .if1 .taken))
+    let g = c .before .before .before .before .before .before .before .before .before .before .before .before .before .before .before .before .before .before .before .before .before .before .before .before .pre .1 .0 in
+    unsolved (not-free (g .placed) _ (g .are-symbols) (g .at-least) (says (c .before .before .before)) (sym (c .before .before .last-index .ensures) ∙ c .if1 .taken))
 
 -- the last place is one of the list
-last-lt : (c : tie.Else1) → c .before .last-index .result < length (c .before .before .before .before .before .before .before .before .before .before .before .before .before .before .before .before .before .before .before .before .before .before .before .args .places .now)
+last-lt : (c : tie.Else1) → c .before .before .last-index .result .0 < length (c .before .before .before .before .before .before .before .before .before .before .before .before .before .before .before .before .before .before .before .before .before .before .before .before .args .places .now)
 last-lt c =
-    let g = c .before .before .before .before .before .before .before .before .before .before .before .before .before .before .before .before .before .before .before .before .before .before .before .pre .1 .0 in
-    rw (c .before .last-index .ensures) (index-lt (g .placed) _ (g .are-symbols) (g .at-least) (says (c .before .before)) (λ e. c .if1 .left (c .before .last-index .ensures ∙ e)))
+    let g = c .before .before .before .before .before .before .before .before .before .before .before .before .before .before .before .before .before .before .before .before .before .before .before .before .pre .1 .0 in
+    rw (c .before .before .last-index .ensures) (index-lt (g .placed) _ (g .are-symbols) (g .at-least) (says (c .before .before .before)) (λ e. c .if1 .left (c .before .before .last-index .ensures ∙ e)))
 
-mul-at : tie.Need-mul-at
-mul-at c = let p = c .before .before .before .before .before .before .before .before .before .before .before .before .before .before .before .before .before .before .before .before .before .before .before .pre .1 .0 .placed in omega (arith, c .before .last-index .ensures, index-most (c .before .before .before .before .before .before .before .before .before .before .before .before .before .before .before .before .before .before .before .before .before .before .before .args .p .k) (c .before .before .zero-at .result), accepted p .k-most, accepted p .n-most)
+chosen-place-requires-2 : tie.Need-chosen-place-requires-2
+chosen-place-requires-2 c κs = last-lt c
 
-shared-slice-read-at : tie.Need-shared-slice-read-at
-shared-slice-read-at c = last-lt (c .before)
-
-shared-slice-read-v : tie.Need-shared-slice-read-v
-shared-slice-read-v c = omega (arith, last-lt (c .before .before), c .before .before .before .before .before .before .before .before .before .before .before .before .before .before .before .before .before .before .before .before .before .before .before .before .before .pre .1 .0 .lengths)
+message-symbol-requires : tie.Need-message-symbol-requires
+message-symbol-requires c κs = omega (arith, last-lt (c .before), c .before .before .before .before .before .before .before .before .before .before .before .before .before .before .before .before .before .before .before .before .before .before .before .before .before .pre .1 .0 .lengths)
 
 finish-at-requires : tie.Need-finish-at-requires
 finish-at-requires c κs =
-    let s = c .before .before .before .before .before .before .before .before .before .before .before .before .before .before .before .before .before .before .before .before .before .before .before .before .before .before .before .before in
+    let s = c .before .before .before .before .before .before .before .before .before .before .before .before .before .before .before .before .before .before .before .before .before .before .before .before .before .before .before .before .before in
     let g = s .pre .1 .0 in
     let p = g .placed in
-    let r = c .before .before .before .before .before .before .before .before .before .before .before .before .before .before .before .before .before .run in
-    let (fits, word-fits) = has-room (c .before .before .before .before .before .before .before .before .before .before .before .before .before .before .before .before .before) in
+    let r = c .before .before .before .before .before .before .before .before .before .before .before .before .before .before .before .before .before .before .run in
+    let (fits, word-fits) = has-room (c .before .before .before .before .before .before .before .before .before .before .before .before .before .before .before .before .before .before) in
     let few = sizes p _ (g .are-symbols) (s .args .p .k - 1) (omega (arith, g .at-least)) in
     let k = accepted p .k-least in (
       s .pre .0,
       (
-        within p (length (s .args .places .now)) (omega arith) .is-place _ (last-lt (c .before .before .before .before .before)),
+        rw (c .before .before .before .before .chosen-place2 .ensures) (within p (length (s .args .places .now)) (omega arith) .is-place _ (last-lt (c .before .before .before .before .before))),
         fits,
         word-fits,
         omega (arith, k, holds-length (r .ensures .pair .low), few .low-length),
@@ -112,7 +103,7 @@ finish-at-requires c κs =
     )
 
 same-length-4 : tie.Need-same-length-4
-same-length-4 c = search needs
+same-length-4 c = c .before .before .before .before .before .before .before .before .before .before .before .before .before .before .before .before .before .before .before .before .before .run .kept .1 .1 .1 .1 .1 .1 .1 .1 .0
 
 same-length-5 : tie.Need-same-length-5
 same-length-5 c = search needs
@@ -122,27 +113,25 @@ same-length-6 c = search needs
 
 returns-2 : tie.Need-returns-2
 returns-2 c =
-    let g = c .before .before .before .before .before .before .before .before .before .before .before .before .before .before .before .before .before .before .before .before .before .before .before .before .before .before .before .before .before .before .before .pre .1 .0 in
-    solves (g .placed) _ (g .are-symbols) (g .at-least) (says (c .before .before .before .before .before .before .before .before .before .before)) (λ e. c .before .before .before .before .before .before .before .before .if1 .left (c .before .before .before .before .before .before .before .before .before .last-index .ensures ∙ e)) (c .before .before .before .before .before .before .before .before .before .last-index .ensures) (c .before .before .before .before .before .before .before .before .before .before .before .before .before .before .before .before .before .before .before .before .run .ensures) (c .before .before .finish-at .ensures)
+    let g = c .before .before .before .before .before .before .before .before .before .before .before .before .before .before .before .before .before .before .before .before .before .before .before .before .before .before .before .before .before .before .before .before .pre .1 .0 in
+    let i = c .before .before .before .before .before .before .before .before .before .before .last-index .ensures in
+    solves (g .placed) _ (g .are-symbols) (g .at-least) (says (c .before .before .before .before .before .before .before .before .before .before .before)) (λ e. c .before .before .before .before .before .before .before .before .if1 .left (i ∙ e)) i (c .before .before .before .before .before .before .before .before .before .before .before .before .before .before .before .before .before .before .before .before .before .run .ensures) (c .before .before .before .before .before .before .before .chosen-place2 .ensures) (c .before .before .before .before .before .before .message-symbol .ensures) (c .before .before .finish-at .ensures)
 
 pub solve-in-spec : {M : Type 1} → statement M
 solve-in-spec =
     tie.close
     (tie.spec
-    sub-run
+    sub-count
     run-requires
-    sub-place
-    mul-place
-    shared-slice-read-place
+    chosen-place-requires
     zero-at-requires
     last-index-requires
     same-length
     same-length-2
     same-length-3
     returns
-    mul-at
-    shared-slice-read-at
-    shared-slice-read-v
+    chosen-place-requires-2
+    message-symbol-requires
     finish-at-requires
     same-length-4
     same-length-5

@@ -1,10 +1,15 @@
 -- The sum with the multiple that the quotient is.
 use mathlib.Core.Path.{_∙_, ap}
-use Rattle.field.specs.Galois.{galois}
+use lib.Bits.{bitXor}
+use lib.ListN.{getD}
+use Rattle.field.specs.Galois.{galois, product, inverse}
 use Rattle.elliptic.specs.Pair.{addScaled}
 use borrow.Author.Needs.{needs}
 use Rattle.solving.proofs.solve_word.correct.Statement.{statement}
 use Rattle.solving.proofs.solve_word.correct.Tie as tie
+
+index-of-requires : tie.Need-index-of-requires
+index-of-requires c κs = search needs
 
 slice-read-quotient : tie.Need-slice-read-quotient
 slice-read-quotient c = search needs
@@ -22,12 +27,17 @@ same-length : tie.Need-same-length
 same-length c = search needs
 
 returns : tie.Need-returns
-returns c = let a = c .before .before .before .before .before .before .before .before .before .args in c .before .before .add-scaled .ensures ∙ ap (λ t. addScaled (galois (a .m)) t (a .l .now) (a .f .now)) (c .before .before .before .before .quotient .ensures)
+returns c =
+    let a = c .before .before .before .before .before .before .before .before .before .before .args in
+    c .before .before .add-scaled .ensures
+    ∙ ap (λ t. addScaled (galois (a .m)) t (a .l .now) (a .f .now))
+    (c .before .before .before .before .quotient .ensures ∙ ap (λ j. product (a .m) (bitXor (a .v) (getD (a .f .now) j 0)) (inverse (a .m) (getD (a .l .now) j 0))) (c .before .before .before .before .before .before .before .index-of .ensures))
 
 pub correct-spec : {M : Type 1} → statement M
 correct-spec =
     tie.close
     (tie.spec
+    index-of-requires
     slice-read-quotient
     shared-slice-read-quotient
     quotient-requires

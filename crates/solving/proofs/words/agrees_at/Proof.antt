@@ -17,8 +17,8 @@ use Rattle.solving.proofs.words.agrees_at.Tie as tie
 abbrev symbol : List ℕ → ℕ → ℕ
 symbol f p = getD f (p - 1) 0
 
-read : (f places : List ℕ) (i : ℕ) {j : ℕ} → i < length places → j ≡ getD places i 0 - 1 → getD (map (symbol f) places) i 0 ≡ getD f j 0
-read f places i h e = getD-map-in (symbol f) places i 0 0 h ∙ ap (λ j. getD f j 0) (sym e)
+read : (f places : List ℕ) (i : ℕ) {p j : ℕ} → i < length places → p ≡ getD places i 0 → j ≡ p - 1 → getD (map (symbol f) places) i 0 ≡ getD f j 0
+read f places i h e₁ e₂ = getD-map-in (symbol f) places i 0 0 h ∙ ap (symbol f) (sym e₁) ∙ ap (λ j. getD f j 0) (sym e₂)
 
 abbrev Inv-loop : tie.InvT-loop
 Inv-loop f places symbols i₀ i = same (drop i (map (symbol f) places)) (drop i symbols) ≡ agrees f places symbols
@@ -30,20 +30,21 @@ loop-holds : tie.Need-loop-holds Inv-loop μ-loop
 unfolding agrees symbolAt
 loop-holds c = refl
 
-mul-place : tie.Need-mul-place Inv-loop μ-loop
-mul-place c = search needs
-
-shared-slice-read-place : tie.Need-shared-slice-read-place Inv-loop μ-loop
-shared-slice-read-place c = search needs
+chosen-place-requires : tie.Need-chosen-place-requires Inv-loop μ-loop
+chosen-place-requires c κs = search needs
 
 index-of-requires : tie.Need-index-of-requires Inv-loop μ-loop
-index-of-requires c κs = let s = c .before .before .before .before .before .before in place-at (length (s .args .f .now)) (s .args .places .now) (s .pre .0) (c .before .before .loop .i) (c .before .loop-test .taken) .0
+index-of-requires c κs =
+    let s = c .before .before .before .before .before .before in
+    omega (arith, c .chosen-place .ensures, place-at (length (s .args .f .now)) (s .args .places .now) (s .pre .0) (c .before .before .loop .i) (c .before .loop-test .taken) .0)
 
 shared-slice-read-if1 : tie.Need-shared-slice-read-if1 Inv-loop μ-loop
-shared-slice-read-if1 c = let s = c .before .before .before .before .before .before .before .before in omega (arith, c .before .index-of .ensures, place-at (length (s .args .f .now)) (s .args .places .now) (s .pre .0) (c .before .before .before .before .loop .i) (c .before .before .before .loop-test .taken) .1)
+shared-slice-read-if1 c =
+    let s = c .before .before .before .before .before .before .before .before in
+    omega (arith, c .before .index-of .ensures, c .before .before .chosen-place .ensures, place-at (length (s .args .f .now)) (s .args .places .now) (s .pre .0) (c .before .before .before .before .loop .i) (c .before .before .before .loop-test .taken) .1)
 
-shared-slice-read-if1-2 : tie.Need-shared-slice-read-if1-2 Inv-loop μ-loop
-shared-slice-read-if1-2 c = omega (arith, c .before .before .before .before .loop-test .taken, c .before .before .before .before .before .before .before .before .before .pre .1)
+message-symbol-requires : tie.Need-message-symbol-requires Inv-loop μ-loop
+message-symbol-requires c κs = omega (arith, c .before .before .before .loop-test .taken, c .before .before .before .before .before .before .before .before .pre .1)
 
 returns : tie.Need-returns Inv-loop μ-loop
 returns c =
@@ -52,7 +53,7 @@ returns c =
     let at = c .before .before .before .before .before .before .loop in
     let t = c .before .before .before .before .before .loop-test .taken in
     same-fails (map (symbol (a .f .now)) (a .places .now)) (a .symbols .now) (at .i) (at .inv) (rw (length-map (a .places .now) (symbol (a .f .now))) t) (omega (arith, t, s .pre .1))
-    (λ e. c .if1 .taken (sym (read (a .f .now) (a .places .now) (at .i) t (c .before .before .before .index-of .ensures)) ∙ e))
+    (λ e. c .if1 .taken (sym (read (a .f .now) (a .places .now) (at .i) t (c .before .before .before .before .chosen-place .ensures) (c .before .before .before .index-of .ensures)) ∙ e ∙ sym (c .before .message-symbol .ensures)))
 
 add-i : tie.Need-add-i Inv-loop μ-loop
 add-i c = search needs
@@ -67,7 +68,7 @@ loop-again c =
     let at = c .before .before .before .before .before .before .loop in
     let t = c .before .before .before .before .before .loop-test .taken in
     same-passes (map (symbol (a .f .now)) (a .places .now)) (a .symbols .now) (at .i) (at .inv) (rw (length-map (a .places .now) (symbol (a .f .now))) t) (omega (arith, t, s .pre .1))
-    (read (a .f .now) (a .places .now) (at .i) t (c .before .before .before .index-of .ensures) ∙ c .if1 .left)
+    (read (a .f .now) (a .places .now) (at .i) t (c .before .before .before .before .chosen-place .ensures) (c .before .before .before .index-of .ensures) ∙ c .if1 .left ∙ c .before .message-symbol .ensures)
 
 returns-2 : tie.Need-returns-2 Inv-loop μ-loop
 returns-2 c =
@@ -83,11 +84,10 @@ agrees-at-spec =
     Inv-loop
     μ-loop
     loop-holds
-    mul-place
-    shared-slice-read-place
+    chosen-place-requires
     index-of-requires
     shared-slice-read-if1
-    shared-slice-read-if1-2
+    message-symbol-requires
     returns
     add-i
     loop-less

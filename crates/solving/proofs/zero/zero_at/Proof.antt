@@ -6,8 +6,8 @@ use lib.ListN.{take}
 use Rattle.field.specs.Galois.{galois}
 use Rattle.elliptic.specs.Pair.{evaluate}
 use borrow.Author.Needs.{needs}
-use Rattle.solving.proofs.look.zero_at.Statement.{statement}
-use Rattle.solving.proofs.look.zero_at.Tie as tie
+use Rattle.solving.proofs.zero.zero_at.Statement.{statement}
+use Rattle.solving.proofs.zero.zero_at.Tie as tie
 
 point-at-requires : tie.Need-point-at-requires
 point-at-requires c κs = search needs
