@@ -40,13 +40,26 @@ fn mean_of(t: Tally, stamps: &mut [u32], readings: &mut [i16], sum: i16, mean: i
     t.compared(number_of(answer) == 0 && same_means(&out, &[mean]))
 }
 
-// Halves go away from zero; 45 readings are enough, 44 are not.
+// Of 60 readings.
+fn whole_hour(t: Tally, sum: i16, mean: i16) -> Tally {
+    mean_of(t, &mut [0; 60], &mut [0; 60], sum, mean)
+}
+
+// 45 readings are enough, 44 are not.
+fn enough(t: Tally) -> Tally {
+    mean_of(t, &mut [0; 45], &mut [0; 45], 90, 2)
+}
+
+fn too_few(t: Tally) -> Tally {
+    mean_of(t, &mut [0; 44], &mut [0; 44], 90, 32767)
+}
+
+// Halves go away from zero.
 pub fn known_means() -> Tally {
-    let t = mean_of(nothing(), &mut [0; 60], &mut [0; 60], 30, 1);
-    let u = mean_of(t, &mut [0; 60], &mut [0; 60], 29, 0);
-    let v = mean_of(u, &mut [0; 60], &mut [0; 60], -30, -1);
-    let w = mean_of(v, &mut [0; 44], &mut [0; 44], 90, 32767);
-    mean_of(w, &mut [0; 45], &mut [0; 45], 90, 2)
+    let t = whole_hour(nothing(), 30, 1);
+    let u = whole_hour(t, 29, 0);
+    let v = whole_hour(u, -30, -1);
+    enough(too_few(v))
 }
 
 // Over 64 elements with k = 5: the means 0 and 32,767, an absent one, and back.

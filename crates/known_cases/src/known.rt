@@ -45,56 +45,65 @@ fn points_b(t: Tally) -> Tally {
     v.compared(xs[0] == 0 && ys[0] == 1)
 }
 
-// A curve without points, and a singular one.
+// A curve without points.
 fn points_none(t: Tally) -> Tally {
     let mut xs = symbols();
     let mut ys = symbols();
-    let none = points(
-        2,
-        Curve {
-            g1: 0,
-            g2: 0,
-            g3: 1,
-            g4: 0,
-            g6: 2,
-        },
-        &mut xs,
-        &mut ys,
-    );
-    let u = t.compared(number_of(none) == 99 && count_of(none) == 0);
-    let singular = points(
-        2,
-        Curve {
-            g1: 0,
-            g2: 0,
-            g3: 0,
-            g4: 0,
-            g6: 0,
-        },
-        &mut xs,
-        &mut ys,
-    );
-    u.compared(number_of(singular) == 3)
+    let curve = Curve {
+        g1: 0,
+        g2: 0,
+        g3: 1,
+        g4: 0,
+        g6: 2,
+    };
+    let none = points(2, curve, &mut xs, &mut ys);
+    t.compared(number_of(none) == 99 && count_of(none) == 0)
+}
+
+// A singular one.
+fn points_singular(t: Tally) -> Tally {
+    let mut xs = symbols();
+    let mut ys = symbols();
+    let curve = Curve {
+        g1: 0,
+        g2: 0,
+        g3: 0,
+        g4: 0,
+        g6: 0,
+    };
+    t.compared(number_of(points(2, curve, &mut xs, &mut ys)) == 3)
 }
 
 pub fn known_points() -> Tally {
-    points_none(points_b(points_a(nothing())))
+    points_singular(points_none(points_b(points_a(nothing()))))
+}
+
+// The number with which an operation answers over A. Each has its lists here, so that no caller has many.
+fn function_a(k: usize, places: &[u16], message: &[u8], out: &mut [u8]) -> u64 {
+    number_of(systematic_function(a(k), &xs_a(), &ys_a(), places, message, out, &mut working()))
+}
+
+fn word_a(k: usize, places: &[u16], message: &[u8], out: &mut [u8]) -> u64 {
+    number_of(systematic_word(a(k), &xs_a(), &ys_a(), places, message, out, &mut working()))
+}
+
+fn relation_a(k: usize, places: &[u16], out: &mut [u8]) -> u64 {
+    number_of(relation(a(k), &xs_a(), &ys_a(), places, out, &mut working()))
+}
+
+fn pick_a(k: usize, places: &[u16], out: &mut [u16]) -> u64 {
+    number_of(pick(a(k), &xs_a(), &ys_a(), places, out, &mut working()))
+}
+
+fn rebuild_a(k: usize, places: &[u16], symbols: &[u8], out: &mut [u8]) -> u64 {
+    number_of(rebuild(a(k), &xs_a(), &ys_a(), places, symbols, out, &mut working()))
 }
 
 // Systematic function of A with k = 5 at places 1,2,3,5,8.
 fn unit_function(t: Tally, message: &[u8], function: &[u8]) -> Tally {
-    let mut work = working();
     let mut out = [9u8; 5];
-    let answer = systematic_function(
-        a(5),
-        &xs_a(),
-        &ys_a(),
-        &[1, 2, 3, 5, 8],
-        message,
-        &mut out,
-        &mut work,
-    );
-    t.compared(number_of(answer) == 0 && same(&out, function))
+    let number = function_a(5, &[1, 2, 3, 5, 8], message, &mut out);
+    t.compared(number == 0 && same(&out, function))
 }
 
 // The functions for the unit messages: source document 001, Example 1.
@@ -108,129 +117,95 @@ fn example(t: Tally) -> Tally {
 
 // A, k = 2, places 1,2: dependent.
 fn pair_a(t: Tally) -> Tally {
-    let mut work = working();
     let mut out = [9u8; 8];
-    let answer = systematic_word(
-        a(2),
-        &xs_a(),
-        &ys_a(),
+    t.compared(word_a(2, &[1, 2], &[1, 0], &mut out) == 12)
+}
+
+// B, k = 2, places 1,2, message 1,0: the function.
+fn function_b(t: Tally) -> Tally {
+    let mut out = [9u8; 2];
+    let answer = systematic_function(
+        b(2),
+        &xs_b(),
+        &ys_b(),
         &[1, 2],
         &[1, 0],
         &mut out,
-        &mut work,
+        &mut working(),
     );
-    t.compared(number_of(answer) == 12)
+    t.compared(number_of(answer) == 0 && same(&out, &[1, 1]))
 }
 
-// B, k = 2, places 1,2, message 1,0.
-fn pair_b(t: Tally) -> Tally {
-    let mut work = working();
-    let mut function = [9u8; 2];
-    let mut word = [9u8; 7];
-    let first = systematic_function(
+// And the word.
+fn word_b(t: Tally) -> Tally {
+    let mut out = [9u8; 7];
+    let answer = systematic_word(
         b(2),
         &xs_b(),
         &ys_b(),
         &[1, 2],
         &[1, 0],
-        &mut function,
-        &mut work,
+        &mut out,
+        &mut working(),
     );
-    let second = systematic_word(
-        b(2),
-        &xs_b(),
-        &ys_b(),
-        &[1, 2],
-        &[1, 0],
-        &mut word,
-        &mut work,
-    );
-    let u = t.compared(number_of(first) == 0 && same(&function, &[1, 1]));
-    u.compared(number_of(second) == 0 && same(&word, &[1, 0, 0, 3, 3, 2, 2]))
+    t.compared(number_of(answer) == 0 && same(&out, &[1, 0, 0, 3, 3, 2, 2]))
 }
 
 // A, k = 3, places 3,5,7: dependent, though no two of them share X.
-fn line_a(t: Tally) -> Tally {
-    let mut work = working();
+fn line_function(t: Tally) -> Tally {
     let mut out = [9u8; 3];
-    let mut picked = [0u16; 3];
-    let function = systematic_function(
-        a(3),
-        &xs_a(),
-        &ys_a(),
-        &[3, 5, 7],
-        &[1, 0, 0],
-        &mut out,
-        &mut work,
-    );
-    let u = t.compared(number_of(function) == 12);
-    let relates = relation(a(3), &xs_a(), &ys_a(), &[3, 5, 7], &mut out, &mut work);
-    let v = u.compared(number_of(relates) == 0 && same(&out, &[2, 0, 1]));
-    let picks = pick(
-        a(3),
-        &xs_a(),
-        &ys_a(),
-        &[3, 5, 7, 1],
-        &mut picked,
-        &mut work,
-    );
-    v.compared(number_of(picks) == 0 && same_places(&picked, &[3, 5, 1]))
+    t.compared(function_a(3, &[3, 5, 7], &[1, 0, 0], &mut out) == 12)
+}
+
+fn line_relation(t: Tally) -> Tally {
+    let mut out = [9u8; 3];
+    let number = relation_a(3, &[3, 5, 7], &mut out);
+    t.compared(number == 0 && same(&out, &[2, 0, 1]))
+}
+
+fn line_pick(t: Tally) -> Tally {
+    let mut out = [0u16; 3];
+    let number = pick_a(3, &[3, 5, 7, 1], &mut out);
+    t.compared(number == 0 && same_places(&out, &[3, 5, 1]))
 }
 
 // A, k = 4, places 1,2,3,4.
-fn four_a(t: Tally) -> Tally {
-    let mut work = working();
+fn four_relation(t: Tally) -> Tally {
     let mut out = [9u8; 4];
-    let answer = relation(a(4), &xs_a(), &ys_a(), &[1, 2, 3, 4], &mut out, &mut work);
-    t.compared(number_of(answer) == 0 && same(&out, &[0, 1, 0, 1]))
+    let number = relation_a(4, &[1, 2, 3, 4], &mut out);
+    t.compared(number == 0 && same(&out, &[0, 1, 0, 1]))
 }
 
 // A, k = 5: Rebuild, and with place 4 and symbol 0 added.
-fn rebuild_a(t: Tally) -> Tally {
-    let mut work = working();
+fn rebuilt(t: Tally) -> Tally {
     let mut out = [9u8; 8];
-    let more = rebuild(
-        a(5),
-        &xs_a(),
-        &ys_a(),
-        &[1, 2, 3, 5, 8, 4],
-        &[1, 0, 0, 0, 0, 0],
-        &mut out,
-        &mut work,
-    );
-    let u = t.compared(number_of(more) == 14);
-    let answer = rebuild(
-        a(5),
-        &xs_a(),
-        &ys_a(),
-        &[1, 2, 3, 5, 8],
-        &[1, 0, 0, 0, 0],
-        &mut out,
-        &mut work,
-    );
-    u.compared(number_of(answer) == 0 && same(&out, &[1, 0, 0, 2, 0, 0, 3, 0]))
+    let number = rebuild_a(5, &[1, 2, 3, 5, 8], &[1, 0, 0, 0, 0], &mut out);
+    t.compared(number == 0 && same(&out, &[1, 0, 0, 2, 0, 0, 3, 0]))
+}
+
+fn not_rebuilt(t: Tally) -> Tally {
+    let mut out = [9u8; 8];
+    t.compared(rebuild_a(5, &[1, 2, 3, 5, 8, 4], &[1, 0, 0, 0, 0, 0], &mut out) == 14)
 }
 
 pub fn known_functions() -> Tally {
     let t = pair_a(example(nothing()));
-    let u = line_a(pair_b(t));
-    rebuild_a(four_a(u))
+    let u = word_b(function_b(t));
+    let v = line_pick(line_relation(line_function(u)));
+    not_rebuilt(rebuilt(four_relation(v)))
 }
 
 // A with k = 0 and k = 8: 7.
-pub fn known_dimensions() -> Tally {
-    let mut work = working();
+fn none(t: Tally) -> Tally {
     let mut out = [9u8; 8];
-    let none = systematic_word(a(0), &xs_a(), &ys_a(), &[], &[], &mut out, &mut work);
-    let t = nothing().compared(number_of(none) == 7);
-    let all = systematic_word(
-        a(8),
-        &xs_a(),
-        &ys_a(),
-        &[1, 2, 3, 4, 5, 6, 7, 8],
-        &[0; 8],
-        &mut out,
-        &mut work,
-    );
-    t.compared(number_of(all) == 7)
+    t.compared(word_a(0, &[], &[], &mut out) == 7)
+}
+
+fn all(t: Tally) -> Tally {
+    let mut out = [9u8; 8];
+    t.compared(word_a(8, &[1, 2, 3, 4, 5, 6, 7, 8], &[0; 8], &mut out) == 7)
+}
+
+pub fn known_dimensions() -> Tally {
+    all(none(nothing()))
 }
