@@ -46,8 +46,9 @@ module _ (f : ℕ → List ℕ) where
 
   -- the first rows stand in the buffer, and z comes back for the part that was lent behind them
   pub rows-more : (n i : ℕ) (out : List ℕ) {z : List ℕ} (r : List ℕ) → i * n + n ≤ length out → take (i * n) out ≡ joined (table f i)
-      → length z ≡ length (take (i * n + n - i * n) (drop (i * n) out)) → z ≡ f i → take ((i + 1) * n) (take (i * n) out ++ (z ++ r)) ≡ joined (table f (i + 1))
-  rows-more n i out {z} r fits before kept row =
+      → length (f i) ≡ n → z ≡ f i → take ((i + 1) * n) (take (i * n) out ++ (z ++ r)) ≡ joined (table f (i + 1))
+  rows-more n i out {z} r fits before size row =
+      let kept : length z ≡ length (take (i * n + n - i * n) (drop (i * n) out)) = ap length row ∙ size ∙ sym (row-length n (i * n) out fits) in
       ap (λ m. take m (take (i * n) out ++ (z ++ r))) (sym (row-end n i)) ∙ extended out z r (i * n) (i * n + n) (omega arith) fits kept
       ∙ ap (λ l. l ++ z) before ∙ ap (λ l. joined (table f i) ++ l) row ∙ joined-more i
 

@@ -1,14 +1,16 @@
--- The marks of the points that are not chosen: how many there are, and the list whose first elements they are written over.
-use Prim.Native.Nat.{ℕ, zero, suc, _+_, _≤_}
+-- The marks of the points that are not chosen: how many there are, and the list whose first elements they are written over. The length of a row.
+use Prim.Native.Nat.{ℕ, zero, suc, _+_, _-_, _≤_}
 use mathlib.Core.Path.{_≡_, refl, sym, _∙_, ap}
 use mathlib.Core.List.{List, [], _∷_, _++_}
 use native.Mathlib.Omega.{arith}
-use lib.ListN.{length, getD, take, drop, take-append-drop}
+use lib.ListN.{length, getD, take, drop, take-append-drop, length-set}
 use lib.Seq.{length-take-le, take-append-seam}
+use Rattle.basics.specs.Lists.{table}
 use Rattle.basics.proofs.Lists.{length-table, getD-table}
 use Rattle.generator.specs.Arranged.{freeAt, rank}
 use Rattle.generator.proofs.Arranged.{rank-as, rank-all}
-use Rattle.matrix.specs.Given.{Written, frees}
+use Rattle.generator.specs.Rows.{entryAt, symbolAt}
+use Rattle.matrix.specs.Given.{Written, frees, rowAt}
 
 module _ (n : ℕ) (work : List ℕ) (fits : n ≤ length work) (z : List ℕ) (kept : length z ≡ length (take n work)) where
   pub written-front : take n (z ++ drop n work) ≡ z
@@ -36,3 +38,9 @@ module _ (J px : List ℕ) {free : List ℕ} (e : free ≡ frees J px) where
   marks-rest w =
       let same = rank-as (λ i. getD free i 0) (freeAt J) (length px) (λ t h. ap (λ f. getD f t 0) e ∙ getD-table (freeAt J) (length px) t 0 h) in
       omega (arith, same, rank-all (length px) J (w .places) (w .apart), w .full)
+
+-- a row has a symbol for each point
+pub row-size : (m k : ℕ) (J px l u a b : List ℕ) (j : ℕ) → length (rowAt m k J px l u a b j) ≡ length px
+row-size m k J px l u a b j =
+    let symbol = symbolAt k (frees J px) (entryAt m px l u a b k j) in
+    length-set (table symbol (length px)) (getD J j 0 - 1) 1 ∙ length-table symbol (length px)

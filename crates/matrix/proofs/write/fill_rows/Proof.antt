@@ -8,14 +8,14 @@ use lib.ListN.{length, take}
 use Rattle.basics.specs.Lists.{table}
 use Rattle.coder.specs.Outcomes.{joined}
 use Rattle.matrix.specs.Given.{rowAt}
-use Rattle.matrix.proofs.Marks.{marks-size, marks-rest}
+use Rattle.matrix.proofs.Marks.{marks-size, marks-rest, row-size}
 use Rattle.matrix.proofs.Joined.{row-fits, row-length, place-inside, rows-small, rows-more, rows-all}
 use borrow.Author.Needs.{needs}
 use Rattle.matrix.proofs.write.fill_rows.Statement.{statement}
 use Rattle.matrix.proofs.write.fill_rows.Tie as tie
 
 abbrev Inv-loop : tie.InvT-loop
-Inv-loop m powers logs k places free px l u a b out₀ n i₀ out i = (i ≤ k) × (length out ≡ length out₀) × (take (i * length px) out ≡ joined (table (rowAt m k places px l u a b) i))
+Inv-loop m powers logs k places free px l u a b out₀ n i₀ out i = (i ≤ k) × (take (i * length px) out ≡ joined (table (rowAt m k places px l u a b) i)) × (length out ≡ length out₀)
 
 abbrev μ-loop : tie.MeasureT-loop
 μ-loop m powers logs k places free px l u a b out₀ n i₀ out i = k - i
@@ -32,10 +32,10 @@ room c =
 
 -- so that its part can be lent
 part : (c : tie.In-loop Inv-loop μ-loop) → c .before .loop .i * length (entry c .args .px .now) + length (entry c .args .px .now) ≤ length (c .before .loop .out)
-part c = omega (arith, room c, c .before .loop .inv .1, entry c .pre .1 .0 .room)
+part c = omega (arith, room c, c .before .loop .inv .2, entry c .pre .1 .0 .room)
 
 loop-holds : tie.Need-loop-holds Inv-loop μ-loop
-loop-holds c = (omega arith, refl, rw zero-mul)
+loop-holds c = (omega arith, rw zero-mul, refl)
 
 chosen-place-requires : tie.Need-chosen-place-requires Inv-loop μ-loop
 chosen-place-requires c κs = omega (arith, c .loop-test .taken, entry c .pre .1 .0 .full)
@@ -96,13 +96,15 @@ loop-again c =
     let at = turn .before .loop in
     let n = length (a .px .now) in
     let r = c .before .before .fill-row in
-    let kept = r .kept .1 .1 .1 .1 .1 .1 .1 .1 .1 .1 .1 .1 .0 in
     let R = rowAt (a .m) (a .k) (a .places .now) (a .px .now) (a .l .now) (a .u .now) (a .a .now) (a .b .now) in
-    let entries = rw (c .before .before .before .before .chosen-place .ensures) at (rw (s .pre .1 .1) at (r .ensures)) in
-    (omega (arith, turn .loop-test .taken), same-len-mid (at .i * n) (at .i * n + n - at .i * n) (at .out) (r .last .1 .1 .1 .1 .1 .1 .1 .1 .1 .1 .1 .1 .0) kept ∙ at .inv .1, rows-more R n (at .i) (at .out) _ (part turn) (at .inv .2) kept entries)
+    let entries = rw (c .before .before .before .before .chosen-place .ensures) at (rw (s .pre .1 .1) at (r .ensures)) in (
+      omega (arith, turn .loop-test .taken),
+      rows-more R n (at .i) (at .out) _ (part turn) (at .inv .1) (row-size (a .m) (a .k) (a .places .now) (a .px .now) (a .l .now) (a .u .now) (a .a .now) (a .b .now) (at .i)) entries,
+      same-len-mid (at .i * n) (at .i * n + n - at .i * n) (at .out) (r .last .1 .1 .1 .1 .1 .1 .1 .1 .1 .1 .1 .1 .0) (r .kept .1 .1 .1 .1 .1 .1 .1 .1 .1 .1 .1 .1 .0) ∙ at .inv .2,
+    )
 
 same-length : tie.Need-same-length Inv-loop μ-loop
-same-length c = c .before .loop .inv .1
+same-length c = c .before .loop .inv .2
 
 returns : tie.Need-returns Inv-loop μ-loop
 returns c =
@@ -110,7 +112,7 @@ returns c =
     let a = s .args in
     let at = c .before .loop in
     let full : at .i ≡ a .k = omega arith in
-    rows-all _ (a .k) (length (a .px .now)) (at .inv .1 ∙ s .pre .1 .0 .room) (rw full at (at .inv .2))
+    rows-all _ (a .k) (length (a .px .now)) (at .inv .2 ∙ s .pre .1 .0 .room) (rw full at (at .inv .1))
 
 pub fill-rows-spec : {M : Type 1} → statement M
 fill-rows-spec =
