@@ -6,6 +6,10 @@ use borrow.Author.Needs.{needs}
 use Rattle.coder.proofs.pick.pick_tested.Statement.{statement}
 use Rattle.coder.proofs.pick.pick_tested.Tie as tie
 
+-- the moments of the run, each seen from a later one
+abbrev past-if3 : tie.After-slice-known4 → tie.Else3
+past-if3 c = c .before .before .before .before .before .before .before
+
 returns : tie.Need-returns
 returns c = refuse _ (lt-leb _ _ (c .if1 .taken))
 
@@ -25,7 +29,7 @@ same-length-2 : tie.Need-same-length-2
 same-length-2 c = search needs
 
 returns-4 : tie.Need-returns-4
-returns-4 c = pass _ (le-leb _ _ (c .before .before .before .before .before .before .before .before .before .before .if1 .left)) (pass _ (eq-eqb _ _ (c .before .before .before .before .before .before .before .before .if2 .left)) (pass _ (le-leb room _ (c .before .before .before .before .before .before .before .if3 .left)) (c .before .before .before .before .pick-placed .ensures)))
+returns-4 c = pass _ (le-leb _ _ (past-if3 c .before .before .before .if1 .left)) (pass _ (eq-eqb _ _ (past-if3 c .before .if2 .left)) (pass _ (le-leb room _ (past-if3 c .if3 .left)) (c .before .before .before .before .pick-placed .ensures)))
 
 pub pick-tested-spec : {M : Type 1} → statement M
 pick-tested-spec =

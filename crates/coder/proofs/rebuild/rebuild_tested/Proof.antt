@@ -9,6 +9,13 @@ use borrow.Author.Needs.{needs}
 use Rattle.coder.proofs.rebuild.rebuild_tested.Statement.{statement}
 use Rattle.coder.proofs.rebuild.rebuild_tested.Tie as tie
 
+-- the moments of the run, each seen from a later one
+abbrev entry : tie.Else4 → tie.Start
+entry c = c .before .before .before .before .before .before .before .before .before .before
+
+abbrev past-if4 : tie.After-slice-known4 → tie.Else4
+past-if4 c = c .before .before .before .before .before .before .before .before .before
+
 returns : tie.Need-returns
 returns c = refuse _ (lt-leb _ _ (c .if1 .taken))
 
@@ -22,13 +29,13 @@ returns-4 : tie.Need-returns-4
 returns-4 c = pass _ (le-leb _ _ (c .before .before .before .if1 .left)) (pass _ (eq-eqb _ _ (c .before .before .if2 .left)) (pass _ (eq-eqb _ _ (c .before .if3 .left)) (refuse _ (lt-leb room _ (c .if4 .taken)))))
 
 array-borrow-prefix-f : tie.Need-array-borrow-prefix-f
-array-borrow-prefix-f c = accepted-done _ (c .before .before .before .before .before .before .before .before .before .before .pre) .n-most
+array-borrow-prefix-f c = accepted-done _ (entry c .pre) .n-most
 
 slice-aggregate-rebuild-run : tie.Need-slice-aggregate-rebuild-run
-slice-aggregate-rebuild-run c = sym (length-take-le _ _ (accepted-done _ (c .before .before .before .before .before .before .before .before .before .before .before .pre) .n-most))
+slice-aggregate-rebuild-run c = sym (length-take-le _ _ (accepted-done _ (entry (c .before) .pre) .n-most))
 
 rebuild-run-requires : tie.Need-rebuild-run-requires
-rebuild-run-requires c κs = let s = c .before .before .before .before .before .before .before .before .before .before .before .before .before in (s .pre, (c .before .before .before .before .before .if2 .left, c .before .before .before .before .if3 .left, c .before .before .before .if4 .left, length-take-le _ _ (accepted-done _ (s .pre) .n-most)))
+rebuild-run-requires c κs = let s = entry (c .before .before .before) in (s .pre, (c .before .before .before .before .before .if2 .left, c .before .before .before .before .if3 .left, c .before .before .before .if4 .left, length-take-le _ _ (accepted-done _ (s .pre) .n-most)))
 
 same-length : tie.Need-same-length
 same-length c = search needs
@@ -37,7 +44,7 @@ same-length-2 : tie.Need-same-length-2
 same-length-2 c = search needs
 
 returns-5 : tie.Need-returns-5
-returns-5 c = pass _ (le-leb _ _ (c .before .before .before .before .before .before .before .before .before .before .before .before .if1 .left)) (pass _ (eq-eqb _ _ (c .before .before .before .before .before .before .before .before .before .before .before .if2 .left)) (pass _ (eq-eqb _ _ (c .before .before .before .before .before .before .before .before .before .before .if3 .left)) (pass _ (le-leb room _ (c .before .before .before .before .before .before .before .before .before .if4 .left)) (c .before .before .before .before .before .rebuild-run .ensures))))
+returns-5 c = pass _ (le-leb _ _ (past-if4 c .before .before .before .if1 .left)) (pass _ (eq-eqb _ _ (past-if4 c .before .before .if2 .left)) (pass _ (eq-eqb _ _ (past-if4 c .before .if3 .left)) (pass _ (le-leb room _ (past-if4 c .if4 .left)) (c .before .before .before .before .before .rebuild-run .ensures))))
 
 pub rebuild-tested-spec : {M : Type 1} → statement M
 rebuild-tested-spec =

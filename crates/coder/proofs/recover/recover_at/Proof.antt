@@ -13,13 +13,17 @@ use borrow.Author.Needs.{needs}
 use Rattle.coder.proofs.recover.recover_at.Statement.{statement}
 use Rattle.coder.proofs.recover.recover_at.Tie as tie
 
+-- the moments of the run, each seen from a later one
+abbrev entry : tie.After-fill-places-arg → tie.Start
+entry c = c .before .before .before .before .before .before .before .before
+
 -- what stands in the lent part
 are-places : (c : tie.After-fill-places)
-    → let s = c .before .before .before .before .before .before .before .before .before in
+    → let s = entry (c .before) in
     let n = length (s .args .xs .now) in
     take n (c .fill-places .last .0 ++ drop n (s .args .places .now)) ≡ table placeAt n
 are-places c =
-    let s = c .before .before .before .before .before .before .before .before .before in
+    let s = entry (c .before) in
     let places = s .args .places .now in
     let n = length (s .args .xs .now) in
     let h : n ≤ length places = omega (arith, s .pre .1 .0, accepted-done _ (s .pre .0) .n-most) in
@@ -30,24 +34,24 @@ slice-relend-prefix-fill-places c = let s = c .before .before .before .before .b
 
 slice-aggregate-fill-places : tie.Need-slice-aggregate-fill-places
 slice-aggregate-fill-places c =
-    let s = c .before .before .before .before .before .before .before .before in
+    let s = entry c in
     sym (length-take-le (length (s .args .xs .now)) (s .args .places .now) (omega (arith, s .pre .1 .0, accepted-done _ (s .pre .0) .n-most)))
 
 fill-places-requires : tie.Need-fill-places-requires
 fill-places-requires c κs =
-    let s = c .before .before .before .before .before .before .before .before in
+    let s = entry c in
     let m = accepted-done _ (s .pre .0) .n-most in
     omega (arith, m, length-take-le (length (s .args .xs .now)) (s .args .places .now) (omega (arith, s .pre .1 .0, m)))
 
 slice-reshare-prefix-recover-run : tie.Need-slice-reshare-prefix-recover-run
-slice-reshare-prefix-recover-run c = let s = c .before .before .before .before .before .before .before .before .before .before .before in omega (arith, s .pre .1 .0, accepted-done _ (s .pre .0) .n-most)
+slice-reshare-prefix-recover-run c = let s = entry (c .before .before .before) in omega (arith, s .pre .1 .0, accepted-done _ (s .pre .0) .n-most)
 
 slice-aggregate-recover-run : tie.Need-slice-aggregate-recover-run
 slice-aggregate-recover-run c = rw (are-places (c .before .before .before)) (sym (length-table _ _))
 
 recover-run-requires : tie.Need-recover-run-requires
 recover-run-requires c κs =
-    let s = c .before .before .before .before .before .before .before .before .before .before .before .before .before .before .before in
+    let s = entry (c .before .before .before .before .before .before .before) in
     (s .pre .0, (are-places (c .before .before .before .before .before .before), s .pre .1 .1, s .pre .1 .2, s .pre .1 .3, s .pre .1 .4))
 
 same-length : tie.Need-same-length

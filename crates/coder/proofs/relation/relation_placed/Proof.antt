@@ -11,6 +11,13 @@ use borrow.Author.Needs.{needs}
 use Rattle.coder.proofs.relation.relation_placed.Statement.{statement}
 use Rattle.coder.proofs.relation.relation_placed.Tie as tie
 
+-- the moments of the run, each seen from a later one
+abbrev entry : tie.After-enum-told → tie.Start
+entry c = c .before .before .before .before .before .before .before .before
+
+abbrev after-powers : tie.After-relation-run-arg4 → tie.After-powers
+after-powers c = c .before .before .before .before .before .before .before
+
 test-places-requires : tie.Need-test-places-requires
 test-places-requires c κs = accepted-done _ (c .before .before .before .before .before .pre .0) .n-most
 
@@ -18,14 +25,14 @@ enum-told : tie.Need-enum-told
 enum-told c = search needs
 
 -- the tests were passed
-passed : (c : tie.After-enum-told) → let a = c .before .before .before .before .before .before .before .before .args in placesAnswer (length (a .xs .now)) (a .places .now) ≡ Done
+passed : (c : tie.After-enum-told) → let a = entry c .args in placesAnswer (length (a .xs .now)) (a .places .now) ≡ Done
 passed c = sym (c .before .before .test-places .ensures) ∙ c .enum-told .given .1
 
 powers-requires : tie.Need-powers-requires
-powers-requires c κs = accepted-done _ (c .before .before .before .before .before .before .before .before .pre .0) .field
+powers-requires c κs = accepted-done _ (entry c .pre .0) .field
 
 logarithms-requires : tie.Need-logarithms-requires
-logarithms-requires c κs = accepted-done _ (c .before .before .before .before .before .before .before .before .before .before .pre .0) .field
+logarithms-requires c κs = accepted-done _ (entry (c .before .before) .pre .0) .field
 
 slice-aggregate-relation-run : tie.Need-slice-aggregate-relation-run
 slice-aggregate-relation-run c = search needs
@@ -35,9 +42,9 @@ slice-aggregate-relation-run-2 c = search needs
 
 relation-run-requires : tie.Need-relation-run-requires
 relation-run-requires c κs =
-    let pre = c .before .before .before .before .before .before .before .before .before .before .before .before .before .before .before .before .pre in (
-      record { field = accepted-done _ (pre .0) .field; is-powers = c .before .before .before .before .before .before .before .powers .ensures; is-logs = c .before .before .before .before .before .logarithms .ensures },
-      (are-placed _ _ (passed (c .before .before .before .before .before .before .before .before)) (pre .0), (omega arith, omega arith), pre .1 .0, pre .1 .1, pre .1 .2),
+    let pre = entry (after-powers c .before) .pre in (
+      record { field = accepted-done _ (pre .0) .field; is-powers = after-powers c .powers .ensures; is-logs = c .before .before .before .before .before .logarithms .ensures },
+      (are-placed _ _ (passed (after-powers c .before)) (pre .0), (omega arith, omega arith), pre .1 .0, pre .1 .1, pre .1 .2),
     )
 
 same-length : tie.Need-same-length
@@ -47,7 +54,7 @@ same-length-2 : tie.Need-same-length-2
 same-length-2 c = search needs
 
 returns : tie.Need-returns
-returns c = places-go _ _ (passed (c .before .before .before .before .before .before .before .before .before .before .before .before .before .before .before)) _ (c .before .before .before .before .before .before .relation-run .ensures)
+returns c = places-go _ _ (passed (after-powers (c .before .before .before .before .before .before .before) .before)) _ (c .before .before .before .before .before .before .relation-run .ensures)
 
 returns-2 : tie.Need-returns-2
 returns-2 c = places-stop _ _ _ (c .before .test-places .ensures) (λ d. ⊎-elim (λ e. omega (arith, e)) (λ e. omega (arith, e)) (rw d at (c .match .keys2)))

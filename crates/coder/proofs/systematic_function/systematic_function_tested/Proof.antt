@@ -7,6 +7,10 @@ use borrow.Author.Needs.{needs}
 use Rattle.coder.proofs.systematic_function.systematic_function_tested.Statement.{statement}
 use Rattle.coder.proofs.systematic_function.systematic_function_tested.Tie as tie
 
+-- the moments of the run, each seen from a later one
+abbrev past-if4 : tie.After-slice-known4 → tie.Else4
+past-if4 c = c .before .before .before .before .before .before .before .before .before
+
 returns : tie.Need-returns
 returns c = refuse _ (ne-eqb _ _ (c .if1 .taken))
 
@@ -32,7 +36,7 @@ same-length-2 : tie.Need-same-length-2
 same-length-2 c = search needs
 
 returns-5 : tie.Need-returns-5
-returns-5 c = pass _ (eq-eqb _ _ (c .before .before .before .before .before .before .before .before .before .before .before .before .before .before .if1 .left)) (pass _ (eq-eqb _ _ (c .before .before .before .before .before .before .before .before .before .before .before .before .if2 .left)) (pass _ (eq-eqb _ _ (c .before .before .before .before .before .before .before .before .before .before .if3 .left)) (pass _ (le-leb room _ (c .before .before .before .before .before .before .before .before .before .if4 .left)) (meets-as (posed-as _ _ _ _ (c .before .before .before .before .before .before .before .before .before .before .before .before .before .before .if1 .left)) (c .before .before .before .before .before .systematic-function-run .ensures)))))
+returns-5 c = pass _ (eq-eqb _ _ (past-if4 c .before .before .before .before .before .if1 .left)) (pass _ (eq-eqb _ _ (past-if4 c .before .before .before .if2 .left)) (pass _ (eq-eqb _ _ (past-if4 c .before .if3 .left)) (pass _ (le-leb room _ (past-if4 c .if4 .left)) (meets-as (posed-as _ _ _ _ (past-if4 c .before .before .before .before .before .if1 .left)) (c .before .before .before .before .before .systematic-function-run .ensures)))))
 
 pub systematic-function-tested-spec : {M : Type 1} → statement M
 systematic-function-tested-spec =

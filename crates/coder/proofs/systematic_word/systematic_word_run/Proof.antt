@@ -14,6 +14,13 @@ use borrow.Author.Needs.{needs}
 use Rattle.coder.proofs.systematic_word.systematic_word_run.Statement.{statement}
 use Rattle.coder.proofs.systematic_word.systematic_word_run.Tie as tie
 
+-- the moments of the run, each seen from a later one
+abbrev entry : tie.After-enum-told → tie.Start
+entry c = c .before .before .before .before .before .before .before .before .before .before .before .before .before
+
+abbrev after-enum-told : tie.After-slice-known6 → tie.After-enum-told
+after-enum-told c = c .before .before .before .before .before .before .before .before .before
+
 prepare-word-requires : tie.Need-prepare-word-requires
 prepare-word-requires c κs = let s = c .before .before .before .before .before .before .before .before in (s .pre .0, (s .pre .1 .1 ∙ sym (s .pre .1 .0), s .pre .1 .4))
 
@@ -21,17 +28,17 @@ enum-told : tie.Need-enum-told
 enum-told c = search needs
 
 -- the tests were passed, and the word stands in f
-passed : (c : tie.After-enum-told) → let a = c .before .before .before .before .before .before .before .before .before .before .before .before .before .args in posedAnswer (codeOf (a .p) (a .xs .now) (a .ys .now)) (a .places .now) (a .symbols .now) ≡ Done
+passed : (c : tie.After-enum-told) → let a = entry c .args in posedAnswer (codeOf (a .p) (a .xs .now) (a .ys .now)) (a .places .now) (a .symbols .now) ≡ Done
 passed c = sym (c .before .before .before .before .prepare-word .ensures .answers) ∙ c .enum-told .given .1
 
-holds : (c : tie.After-enum-told) → let a = c .before .before .before .before .before .before .before .before .before .before .before .before .before .args in c .before .before .before .before .prepare-word .last .1 .1 .1 .1 .1 .0 ≡ solvedWord (codeOf (a .p) (a .xs .now) (a .ys .now)) (a .places .now) (a .symbols .now)
+holds : (c : tie.After-enum-told) → let a = entry c .args in c .before .before .before .before .prepare-word .last .1 .1 .1 .1 .1 .0 ≡ solvedWord (codeOf (a .p) (a .xs .now) (a .ys .now)) (a .places .now) (a .symbols .now)
 holds c = c .before .before .before .before .prepare-word .ensures .holds (c .enum-told .given .1)
 
 copy-requires : tie.Need-copy-requires
-copy-requires c κs = let s = c .before .before .before .before .before .before .before .before .before .before .before .before .before .before .before in (omega (arith, c .before .before .before .before .before .before .prepare-word .kept .1 .1 .1 .1 .1 .0, s .pre .1 .3, s .pre .1 .4, accepted-done _ (s .pre .0) .n-most), omega (arith, s .pre .1 .2))
+copy-requires c κs = let s = entry (c .before .before) in (omega (arith, c .before .before .before .before .before .before .prepare-word .kept .1 .1 .1 .1 .1 .0, s .pre .1 .3, s .pre .1 .4, accepted-done _ (s .pre .0) .n-most), omega (arith, s .pre .1 .2))
 
 clear-room-requires : tie.Need-clear-room-requires
-clear-room-requires c κs = let s = c .before .before .before .before .before .before .before .before .before .before .before .before .before .before .before .before .before .before .before in s .pre .1 .3
+clear-room-requires c κs = let s = entry (c .before .before .before .before .before .before) in s .pre .1 .3
 
 same-length : tie.Need-same-length
 same-length c = search needs
@@ -44,9 +51,9 @@ same-length-3 c = search needs
 
 returns : tie.Need-returns
 returns c =
-    let s = c .before .before .before .before .before .before .before .before .before .before .before .before .before .before .before .before .before .before .before .before .before .before in
-    let at = c .before .before .before .before .before .before .before .before .before in
-    let v = c .before .before .before .before .before .before .before .before .before .before .before .before .before .prepare-word in
+    let s = entry (after-enum-told c) in
+    let at = after-enum-told c in
+    let v = after-enum-told c .before .before .before .before .prepare-word in
     let w = c .before .before .before .before .before .before .copy in
     posed-go _ _ _ (passed at) _
     (accept-pair

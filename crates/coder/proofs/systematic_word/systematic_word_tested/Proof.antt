@@ -10,6 +10,13 @@ use borrow.Author.Needs.{needs}
 use Rattle.coder.proofs.systematic_word.systematic_word_tested.Statement.{statement}
 use Rattle.coder.proofs.systematic_word.systematic_word_tested.Tie as tie
 
+-- the moments of the run, each seen from a later one
+abbrev entry : tie.Else4 → tie.Start
+entry c = c .before .before .before .before .before .before .before .before .before .before .before .before
+
+abbrev past-if4 : tie.After-slice-known4 → tie.Else4
+past-if4 c = c .before .before .before .before .before .before .before .before .before
+
 returns : tie.Need-returns
 returns c = refuse _ (ne-eqb _ _ (c .if1 .taken))
 
@@ -23,13 +30,13 @@ returns-4 : tie.Need-returns-4
 returns-4 c = pass _ (eq-eqb _ _ (c .before .before .before .before .if1 .left)) (pass _ (eq-eqb _ _ (c .before .before .if2 .left)) (pass _ (eq-eqb _ _ (c .before .if3 .left)) (refuse _ (lt-leb room _ (c .if4 .taken)))))
 
 array-borrow-prefix-f : tie.Need-array-borrow-prefix-f
-array-borrow-prefix-f c = accepted-done _ (c .before .before .before .before .before .before .before .before .before .before .before .before .pre) .n-most
+array-borrow-prefix-f c = accepted-done _ (entry c .pre) .n-most
 
 slice-aggregate-systematic-word-run : tie.Need-slice-aggregate-systematic-word-run
-slice-aggregate-systematic-word-run c = sym (length-take-le _ _ (accepted-done _ (c .before .before .before .before .before .before .before .before .before .before .before .before .before .pre) .n-most))
+slice-aggregate-systematic-word-run c = sym (length-take-le _ _ (accepted-done _ (entry (c .before) .pre) .n-most))
 
 systematic-word-run-requires : tie.Need-systematic-word-run-requires
-systematic-word-run-requires c κs = let s = c .before .before .before .before .before .before .before .before .before .before .before .before .before .before .before in (s .pre, (c .before .before .before .before .before .before .before .if1 .left, c .before .before .before .before .before .if2 .left, c .before .before .before .before .if3 .left, c .before .before .before .if4 .left, length-take-le _ _ (accepted-done _ (s .pre) .n-most)))
+systematic-word-run-requires c κs = let s = entry (c .before .before .before) in (s .pre, (c .before .before .before .before .before .before .before .if1 .left, c .before .before .before .before .before .if2 .left, c .before .before .before .before .if3 .left, c .before .before .before .if4 .left, length-take-le _ _ (accepted-done _ (s .pre) .n-most)))
 
 same-length : tie.Need-same-length
 same-length c = search needs
@@ -38,7 +45,7 @@ same-length-2 : tie.Need-same-length-2
 same-length-2 c = search needs
 
 returns-5 : tie.Need-returns-5
-returns-5 c = pass _ (eq-eqb _ _ (c .before .before .before .before .before .before .before .before .before .before .before .before .before .if1 .left)) (pass _ (eq-eqb _ _ (c .before .before .before .before .before .before .before .before .before .before .before .if2 .left)) (pass _ (eq-eqb _ _ (c .before .before .before .before .before .before .before .before .before .before .if3 .left)) (pass _ (le-leb room _ (c .before .before .before .before .before .before .before .before .before .if4 .left)) (meets-as (posed-as _ _ _ _ (c .before .before .before .before .before .before .before .before .before .before .before .before .before .if1 .left)) (c .before .before .before .before .before .systematic-word-run .ensures)))))
+returns-5 c = pass _ (eq-eqb _ _ (past-if4 c .before .before .before .before .if1 .left)) (pass _ (eq-eqb _ _ (past-if4 c .before .before .if2 .left)) (pass _ (eq-eqb _ _ (past-if4 c .before .if3 .left)) (pass _ (le-leb room _ (past-if4 c .if4 .left)) (meets-as (posed-as _ _ _ _ (past-if4 c .before .before .before .before .if1 .left)) (c .before .before .before .before .before .systematic-word-run .ensures)))))
 
 pub systematic-word-tested-spec : {M : Type 1} → statement M
 systematic-word-tested-spec =

@@ -8,6 +8,13 @@ use borrow.Author.Needs.{needs}
 use Rattle.engine.proofs.pair.advance.Statement.{statement}
 use Rattle.engine.proofs.pair.advance.Tie as tie
 
+-- the moments of the run, each seen from a later one
+abbrev entry : tie.After-quotient → tie.Start
+entry c = c .before .before .before .before .before
+
+abbrev after-quotient : tie.After-ordered → tie.After-quotient
+after-quotient c = c .before .before .before .before .before .before .before .before .before .before
+
 slice-reshare-prefix-value : tie.Need-slice-reshare-prefix-value
 slice-reshare-prefix-value c = search needs
 
@@ -27,10 +34,10 @@ slice-aggregate-gain : tie.Need-slice-aggregate-gain
 slice-aggregate-gain c = sym (length-take-le _ _ (omega arith))
 
 gain-requires : tie.Need-gain-requires
-gain-requires c κs = let pre = c .before .before .before .before .before .before .before .pre in (pre .0, omega (arith, pre .1 .0, slice-aggregate-gain (c .before)))
+gain-requires c κs = let pre = entry (c .before .before) .pre in (pre .0, omega (arith, pre .1 .0, slice-aggregate-gain (c .before)))
 
 raise-requires : tie.Need-raise-requires
-raise-requires c κs = let pre = c .before .before .before .before .before .before .before .before .before .before .before .pre in (pre .0, omega (arith, pre .1 .0))
+raise-requires c κs = let pre = entry (c .before .before .before .before .before .before) .pre in (pre .0, omega (arith, pre .1 .0))
 
 ordered-requires : tie.Need-ordered-requires
 ordered-requires c κs = search needs
@@ -43,8 +50,8 @@ same-length-2 c = search needs
 
 returns : tie.Need-returns
 returns c =
-    let s = c .before .before .before .before .before .before .before .before .before .before .before .before .before .before .before in
-    stepped-pair (s .args .m) (s .args .p) 0 _ _ [] (s .pre .1 .1) (c .before .before .before .before .before .before .before .before .before .before .before .value .ensures) (c .before .before .before .before .before .before .before .before .before .before .quotient .ensures) (c .before .before .before .raise .ensures) (c .before .before .before .before .before .before .before .gain .ensures) (c .ordered .ensures)
+    let s = entry (after-quotient c) in
+    stepped-pair (s .args .m) (s .args .p) 0 _ _ [] (s .pre .1 .1) (after-quotient c .before .value .ensures) (after-quotient c .quotient .ensures) (c .before .before .before .raise .ensures) (c .before .before .before .before .before .before .before .gain .ensures) (c .ordered .ensures)
 
 pub advance-spec : {M : Type 1} → statement M
 advance-spec =

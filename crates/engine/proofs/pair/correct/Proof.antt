@@ -11,6 +11,10 @@ use borrow.Author.Needs.{needs}
 use Rattle.engine.proofs.pair.correct.Statement.{statement}
 use Rattle.engine.proofs.pair.correct.Tie as tie
 
+-- the moments of the run, each seen from a later one
+abbrev entry : tie.After-gain → tie.Start
+entry c = c .before .before .before .before .before .before .before
+
 slice-reshare-prefix-value : tie.Need-slice-reshare-prefix-value
 slice-reshare-prefix-value c = search needs
 
@@ -31,7 +35,7 @@ same-length c = search needs
 
 returns : tie.Need-returns
 returns c =
-    let s = c .before .before .before .before .before .before .before .before .before in
+    let s = entry (c .before .before) in
     let a = s .args in
     let f = take (a .n) (a .f .now) in
     holds-as {l = addScaled (galois (a .m)) (c .before .before .before .before .quotient .result) (a .g .now) f} (c .before .before .gain .ensures) (corrected-as (a .m) (a .p) (a .v) (a .g .now) f (c .before .before .before .before .before .value .ensures) (s .pre .1 .2) (c .before .before .before .before .quotient .ensures))

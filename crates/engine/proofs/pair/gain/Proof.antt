@@ -12,6 +12,10 @@ use borrow.Author.Needs.{needs}
 use Rattle.engine.proofs.pair.gain.Statement.{statement}
 use Rattle.engine.proofs.pair.gain.Tie as tie
 
+-- the moments of the run, each seen from a later one
+abbrev after-extend : tie.After-slice-known3 → tie.After-extend
+after-extend c = c .before .before .before .before .before .before
+
 extend-requires : tie.Need-extend-requires
 extend-requires c κs = search needs
 
@@ -30,8 +34,8 @@ same-length c = search needs
 returns : tie.Need-returns
 returns c =
     let at = c .before .before in
-    let ext = c .before .before .before .before .before .before in
-    let s = c .before .before .before .before .before .before .before .before .before .before .before in
+    let ext = after-extend c in
+    let s = after-extend c .before .before .before .before .before in
     let a = s .args in
     lent (ext .extend .last .0) _ (length (a .h .now)) (addScaled (galois (a .m)) (a .t) (a .h .now) (take (a .n) (a .f .now))) (omega (arith, ext .extend .kept .0)) (at .add-scaled .kept .1 .1 .1 .1 .1 .0)
     (gained (a .m) (a .t) (a .n) (a .h .now) (a .f .now) (ext .extend .last .0) (s .pre .1 .0) (omega arith) (ext .extend .ensures) (at .add-scaled .ensures))

@@ -12,6 +12,13 @@ use borrow.Author.Needs.{needs}
 use Rattle.engine.proofs.pair.pair_step.Statement.{statement}
 use Rattle.engine.proofs.pair.pair_step.Tie as tie
 
+-- the moments of the run, each seen from a later one
+abbrev entry : tie.After-value → tie.Start
+entry c = c .before .before .before .before
+
+abbrev past-if1 : tie.After-slice-known5 → tie.Else1
+past-if1 c = c .before .before .before .before .before .before .before
+
 slice-reshare-prefix-value : tie.Need-slice-reshare-prefix-value
 slice-reshare-prefix-value c = search needs
 
@@ -22,7 +29,7 @@ value-requires : tie.Need-value-requires
 value-requires c κs = search needs
 
 raise-requires : tie.Need-raise-requires
-raise-requires c κs = let pre = c .before .before .before .before .before .before .pre in (pre .0, omega (arith, pre .1))
+raise-requires c κs = let pre = entry (c .before .before) .pre in (pre .0, omega (arith, pre .1))
 
 same-length : tie.Need-same-length
 same-length c = search needs
@@ -32,7 +39,7 @@ same-length-2 c = search needs
 
 returns : tie.Need-returns
 returns c =
-    let s = c .before .before .before .before .before .before .before .before .before in
+    let s = entry (c .before .before .before .before .before) in
     let a = s .args in
     let l = take (a .n .low) (a .l .now) in
     let u = take (a .n .high) (a .u .now) in
@@ -40,7 +47,7 @@ returns c =
     (kept-pair (a .m) (a .p) 0 l u [] refl (record { within = omega (arith, s .pre .1); first = refl }) (c .before .before .raise .ensures))
 
 advance-requires : tie.Need-advance-requires
-advance-requires c κs = let s = c .before .before .before .before .before .before .before in (s .pre .0, (s .pre .1, c .before .before .before .value .ensures))
+advance-requires c κs = let s = entry (c .before .before .before) in (s .pre .0, (s .pre .1, c .before .before .before .value .ensures))
 
 same-length-3 : tie.Need-same-length-3
 same-length-3 c = search needs
@@ -50,10 +57,10 @@ same-length-4 c = search needs
 
 returns-2 : tie.Need-returns-2
 returns-2 c =
-    let a = c .before .before .before .before .before .before .before .before .before .before .before .before .args in
+    let a = entry (past-if1 c .before) .args in
     let l = take (a .n .low) (a .l .now) in
     let u = take (a .n .high) (a .u .now) in
-    rw (← step-other (galois (a .m)) (a .p) 0 (held false l u []) (c .before .before .before .before .before .before .before .before .value .ensures) (c .before .before .before .before .before .before .before .if1 .left)) (c .before .before .before .before .advance .ensures)
+    rw (← step-other (galois (a .m)) (a .p) 0 (held false l u []) (past-if1 c .before .value .ensures) (past-if1 c .if1 .left)) (c .before .before .before .before .advance .ensures)
 
 pub pair-step-spec : {M : Type 1} → statement M
 pair-step-spec =

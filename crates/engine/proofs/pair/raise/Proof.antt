@@ -8,6 +8,10 @@ use borrow.Author.Needs.{needs}
 use Rattle.engine.proofs.pair.raise.Statement.{statement}
 use Rattle.engine.proofs.pair.raise.Tie as tie
 
+-- the moments of the run, each seen from a later one
+abbrev after-extend : tie.After-slice-known3 → tie.After-extend
+after-extend c = c .before .before .before .before .before .before
+
 grown-requires : tie.Need-grown-requires
 grown-requires c κs = search needs
 
@@ -29,9 +33,9 @@ same-length c = search needs
 returns : tie.Need-returns
 returns c =
     let at = c .before .before in
-    let ext = c .before .before .before .before .before .before in
-    let g = c .before .before .before .before .before .before .before .before in
-    let s = c .before .before .before .before .before .before .before .before .before .before in
+    let ext = after-extend c in
+    let g = after-extend c .before .before in
+    let s = after-extend c .before .before .before .before in
     lent (ext .extend .last .0) _ (g .grown .result) _ (slice-relend-prefix-times-linear (c .before .before .before .before)) (at .times-linear .kept .1 .1 .1 .1 .0)
     (at .times-linear .ensures ∙ rw (ext .extend .ensures) (raised-as _ (s .args .alpha) (s .args .n) (g .grown .result) (s .args .f .now) (omega arith) (g .grown .ensures)))
 

@@ -15,11 +15,15 @@ Inv-loop places from out₀ i₀ out i = (i ≤ length out₀) × (length out �
 abbrev μ-loop : tie.MeasureT-loop
 μ-loop places from out₀ i₀ out i = length out₀ - i
 
+-- the moments of the run, each seen from a later one
+abbrev start : tie.In-loop Inv-loop μ-loop → tie.Start Inv-loop μ-loop
+start c = c .before .before .before .before .before
+
 loop-holds : tie.Need-loop-holds Inv-loop μ-loop
 loop-holds c = (omega arith, refl, refl)
 
 chosen-place-requires : tie.Need-chosen-place-requires Inv-loop μ-loop
-chosen-place-requires c κs = omega (arith, c .before .before .before .before .before .pre .enough)
+chosen-place-requires c κs = omega (arith, start c .pre .enough)
 
 index-of-requires : tie.Need-index-of-requires Inv-loop μ-loop
 index-of-requires c κs =
@@ -45,7 +49,7 @@ loop-less c = search needs
 loop-again : tie.Need-loop-again Inv-loop μ-loop
 loop-again c =
     let at = c .before .before .before .before .loop in
-    let a = c .before .before .before .before .before .before .before .before .args in
+    let a = start (c .before .before .before) .args in
     let index : c .before .index-of .result ≡ getD (a .places .now) (at .i) 0 - 1 = c .before .index-of .ensures ∙ ap (λ p. p - 1) (c .before .before .chosen-place .ensures) in
     (omega arith, simp length-set (at .inv .1), filled-turn (coordinateAt (a .from .now) (a .places .now)) (a .out .now) (at .i) (omega arith) (at .inv .2) (ap (λ j. getD (a .from .now) j 0) index))
 

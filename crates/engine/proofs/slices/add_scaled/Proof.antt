@@ -16,6 +16,10 @@ Inv-loop m powers logs t h f₀ by-t i₀ f i = (length f ≡ length f₀) × (s
 abbrev μ-loop : tie.MeasureT-loop
 μ-loop m powers logs t h f₀ by-t i₀ f i = length h - i
 
+-- the moments of the run, each seen from a later one
+abbrev entry : tie.At-loop Inv-loop μ-loop → tie.Start Inv-loop μ-loop
+entry c = c .before .before .before .before
+
 logarithm-requires : tie.Need-logarithm-requires Inv-loop μ-loop
 logarithm-requires c κs = search needs
 
@@ -29,7 +33,7 @@ shared-slice-read-product-by-log : tie.Need-shared-slice-read-product-by-log Inv
 shared-slice-read-product-by-log c = search needs
 
 product-by-log-requires : tie.Need-product-by-log-requires Inv-loop μ-loop
-product-by-log-requires c κs = let s = c .before .before .before .before .before .before .before in (s .pre .0, logged (s .pre .0 .field) (s .fits .t .fits) (c .before .before .before .before .logarithm .ensures))
+product-by-log-requires c κs = let s = entry (c .before .before .before) in (s .pre .0, logged (s .pre .0 .field) (s .fits .t .fits) (c .before .before .before .before .logarithm .ensures))
 
 slice-write-f : tie.Need-slice-write-f Inv-loop μ-loop
 slice-write-f c = search needs
@@ -43,7 +47,7 @@ loop-less c = search needs
 loop-again : tie.Need-loop-again Inv-loop μ-loop
 loop-again c =
     let at = c .before .before .before .before in
-    let s = c .before .before .before .before .before .before .before .before in
+    let s = entry (c .before .before .before .before) in
     (simp length-set (at .loop .inv .0), add-turn _ _ (at .loop .i) _ (at .loop .f) _ (c .before .before .before .loop-test .taken) (omega arith) (by-logged (s .pre .0 .field) (s .fits .t .fits) (c .before .before .before .before .before .logarithm .ensures) _ (c .product-by-log .ensures)) ∙ at .loop .inv .1)
 
 same-length : tie.Need-same-length Inv-loop μ-loop
@@ -52,7 +56,7 @@ same-length c = omega arith
 returns : tie.Need-returns Inv-loop μ-loop
 returns c =
     let at = c .before in
-    let a = c .before .before .before .before .before .args in
+    let a = entry (c .before) .args in
     sym (add-end (a .m) (a .t) (at .loop .i) (a .h .now) _ (c .loop-test .left)) ∙ at .loop .inv .1
 
 pub add-scaled-spec : {M : Type 1} → statement M

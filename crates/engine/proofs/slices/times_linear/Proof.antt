@@ -14,6 +14,10 @@ Inv-loop m powers logs alpha f₀ by-alpha first a₀ b₀ i₀ f a b i = (lengt
 abbrev μ-loop : tie.MeasureT-loop
 μ-loop m powers logs alpha f₀ by-alpha first a₀ b₀ i₀ f a b i = length f₀ - i
 
+-- the moments of the run, each seen from a later one
+abbrev entry : tie.At-loop Inv-loop μ-loop → tie.Start Inv-loop μ-loop
+entry c = c .before .before .before .before .before
+
 logarithm-requires : tie.Need-logarithm-requires Inv-loop μ-loop
 logarithm-requires c κs = search needs
 
@@ -27,7 +31,7 @@ slice-write-f : tie.Need-slice-write-f Inv-loop μ-loop
 slice-write-f c = search needs
 
 -- the length is as it was at entry
-kept : (c : tie.At-loop Inv-loop μ-loop) → length (c .loop .f) ≡ length (c .before .before .before .before .before .args .f .now)
+kept : (c : tie.At-loop Inv-loop μ-loop) → length (c .loop .f) ≡ length (entry c .args .f .now)
 kept c = c .loop .inv .0 ∙ simp length-set
 
 loop-holds : tie.Need-loop-holds Inv-loop μ-loop
@@ -37,7 +41,7 @@ slice-read-c : tie.Need-slice-read-c Inv-loop μ-loop
 slice-read-c c = search needs
 
 product-by-log-requires-2 : tie.Need-product-by-log-requires-2 Inv-loop μ-loop
-product-by-log-requires-2 c κs = let s = c .before .before .before .before .before .before .before in (s .pre .0, logged (s .pre .0 .field) (s .fits .alpha .fits) (c .before .before .before .before .before .logarithm .ensures))
+product-by-log-requires-2 c κs = let s = entry (c .before .before) in (s .pre .0, logged (s .pre .0 .field) (s .fits .alpha .fits) (c .before .before .before .before .before .logarithm .ensures))
 
 slice-write-f-2 : tie.Need-slice-write-f-2 Inv-loop μ-loop
 slice-write-f-2 c = search needs
@@ -51,7 +55,7 @@ loop-less c = search needs
 loop-again : tie.Need-loop-again Inv-loop μ-loop
 loop-again c =
     let at = c .before .before .before in
-    let s = c .before .before .before .before .before .before .before .before in
+    let s = entry (c .before .before .before) in
     (length-set (at .loop .f) (at .loop .i) _ ∙ at .loop .inv .0, linear-turn _ _ _ _ (at .loop .i) (at .loop .f) _ (c .before .before .loop-test .taken) (by-logged (s .pre .0 .field) (s .fits .alpha .fits) (c .before .before .before .before .before .before .logarithm .ensures) _ (c .product-by-log2 .ensures)) ∙ at .loop .inv .1)
 
 same-length : tie.Need-same-length Inv-loop μ-loop
@@ -59,7 +63,7 @@ same-length c = kept (c .before)
 
 returns : tie.Need-returns Inv-loop μ-loop
 returns c =
-    let s = c .before .before .before .before .before .before in
+    let s = entry (c .before) in
     sym (linear-end _ _ _ _ _ _ (c .loop-test .left)) ∙ c .before .loop .inv .1 ∙ linear-start _ _ _ _ (s .pre .1) (by-logged (s .pre .0 .field) (s .fits .alpha .fits) (c .before .before .before .before .logarithm .ensures) _ (c .before .before .product-by-log .ensures))
 
 pub times-linear-spec : {M : Type 1} → statement M

@@ -6,19 +6,23 @@ use Rattle.generator.proofs.Arranged.{places-fit, front-chosen, front-g
 use Rattle.generator.proofs.arrange.arrange.Statement.{statement}
 use Rattle.generator.proofs.arrange.arrange.Tie as tie
 
+-- the moments of the run, each seen from a later one
+abbrev entry : tie.After-gather-arg → tie.Start
+entry c = c .before .before .before .before .before
+
 slice-relend-prefix-gather : tie.Need-slice-relend-prefix-gather
 slice-relend-prefix-gather c = places-fit (c .before .before .before .before .pre)
 
 slice-aggregate-gather : tie.Need-slice-aggregate-gather
-slice-aggregate-gather c = sym (length-take-le _ _ (places-fit (c .before .before .before .before .before .pre)))
+slice-aggregate-gather c = sym (length-take-le _ _ (places-fit (entry c .pre)))
 
 gather-requires : tie.Need-gather-requires
-gather-requires c κs = front-chosen (c .before .before .before .before .before .pre)
+gather-requires c κs = front-chosen (entry c .pre)
 
 place-rest-requires : tie.Need-place-rest-requires
 place-rest-requires c κs =
     let g = c .before .before .before .gather in
-    let h = c .before .before .before .before .before .before .before .before .before .pre in
+    let h = entry (c .before .before .before .before) .pre in
     (front-arrangeable h (g .last .1 .1 .0) (g .kept .1 .1 .0), front-gathered h (g .ensures))
 
 same-length : tie.Need-same-length

@@ -18,6 +18,10 @@ Inv-loop places free₀ j₀ free j = (j ≤ length places) × (length free ≡ 
 abbrev μ-loop : tie.MeasureT-loop
 μ-loop places free₀ j₀ free j = length places - j
 
+-- the moments of the run, each seen from a later one
+abbrev start : tie.At-loop Inv-loop μ-loop → tie.Start Inv-loop μ-loop
+start c = c .before .before .before .before .before .before .before
+
 fill-ones-requires : tie.Need-fill-ones-requires Inv-loop μ-loop
 fill-ones-requires c κs = tt
 
@@ -32,13 +36,13 @@ chosen-place-requires c κs = search needs
 index-of-requires : tie.Need-index-of-requires Inv-loop μ-loop
 index-of-requires c κs =
     let loop = c .before .before in
-    let entry = loop .before .before .before .before .before .before .before in
+    let entry = start loop in
     omega (arith, c .chosen-place .ensures, entry .pre .0 (loop .loop .j) (c .before .loop-test .taken))
 
 slice-write-free : tie.Need-slice-write-free Inv-loop μ-loop
 slice-write-free c =
     let loop = c .before .before .before in
-    let entry = loop .before .before .before .before .before .before .before in
+    let entry = start loop in
     omega (arith, c .index-of .ensures, c .before .chosen-place .ensures, entry .pre .0 (loop .loop .j) (c .before .before .loop-test .taken), loop .loop .inv .1, loop .before .before .before .fill-ones .kept .0)
 
 add-j : tie.Need-add-j Inv-loop μ-loop
@@ -50,7 +54,7 @@ loop-less c = search needs
 loop-again : tie.Need-loop-again Inv-loop μ-loop
 loop-again c =
     let loop = c .before .before .before in
-    let entry = loop .before .before .before .before .before .before .before in
+    let entry = start loop in
     let at = loop .loop in
     let places = rw (← loop .before .before .before .fill-ones .kept .0) at (entry .pre .0) in
     let index : c .index-of .result ≡ getD (entry .args .places .now) (at .j) 0 - 1 = c .index-of .ensures ∙ ap (λ p. p - 1) (c .before .chosen-place .ensures) in
@@ -63,7 +67,7 @@ returns : tie.Need-returns Inv-loop μ-loop
 returns c =
     let at = c .before .loop in
     let t = c .before .before .before .before .fill-ones in
-    let places = c .before .before .before .before .before .before .before .before .args .places .now in
+    let places = start (c .before) .args .places .now in
     at .inv .2 ∙ rw (take-all (at .j) places (omega arith), t .kept .0)
 
 pub mark-spec : {M : Type 1} → statement M

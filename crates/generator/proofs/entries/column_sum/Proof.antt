@@ -14,37 +14,44 @@ Inv-loop m powers logs alpha v w count xs a b sum₀ j₀ sum j = (sum ≡ total
 abbrev μ-loop : tie.MeasureT-loop
 μ-loop m powers logs alpha v w count xs a b sum₀ j₀ sum j = count - j
 
+-- the moments of the run, each seen from a later one
+abbrev entry : tie.In-loop Inv-loop μ-loop → tie.Start Inv-loop μ-loop
+entry c = c .before .before .before .before .before
+
+abbrev in-loop : tie.After-quotient Inv-loop μ-loop → tie.In-loop Inv-loop μ-loop
+in-loop c = c .before .before .before .before .before .before
+
 loop-holds : tie.Need-loop-holds Inv-loop μ-loop
 loop-holds c = (refl, omega arith)
 
 shared-slice-read-product : tie.Need-shared-slice-read-product Inv-loop μ-loop
-shared-slice-read-product c = omega (arith, c .before .before .before .before .before .before .pre .1 .0 .firsts)
+shared-slice-read-product c = omega (arith, entry (c .before) .pre .1 .0 .firsts)
 
 product-requires : tie.Need-product-requires Inv-loop μ-loop
 product-requires c κs = search needs
 
 shared-slice-read-product-2 : tie.Need-shared-slice-read-product-2 Inv-loop μ-loop
-shared-slice-read-product-2 c = omega (arith, c .before .before .before .before .before .before .before .before .pre .1 .0 .seconds)
+shared-slice-read-product-2 c = omega (arith, entry (c .before .before .before) .pre .1 .0 .seconds)
 
 product-requires-2 : tie.Need-product-requires-2 Inv-loop μ-loop
 product-requires-2 c κs = search needs
 
 shared-slice-read-quotient : tie.Need-shared-slice-read-quotient Inv-loop μ-loop
-shared-slice-read-quotient c = omega (arith, c .before .before .before .before .before .before .before .before .before .before .pre .1 .0 .points)
+shared-slice-read-quotient c = omega (arith, entry (c .before .before .before .before .before) .pre .1 .0 .points)
 
 quotient-requires : tie.Need-quotient-requires Inv-loop μ-loop
 quotient-requires c κs = search needs
 
 add-j : tie.Need-add-j Inv-loop μ-loop
-add-j c = record { fits = omega (arith, c .before .before .before .before .before .before .loop-test .taken, c .before .before .before .before .before .before .before .before .before .before .before .pre .1 .0 .points, c .before .before .before .before .before .before .before .before .before .before .before .pre .1 .1) }
+add-j c = record { fits = omega (arith, in-loop c .loop-test .taken, entry (in-loop c) .pre .1 .0 .points, entry (in-loop c) .pre .1 .1) }
 
 loop-less : tie.Need-loop-less Inv-loop μ-loop
 loop-less c = search needs
 
 loop-again : tie.Need-loop-again Inv-loop μ-loop
 loop-again c =
-    let a = c .before .before .before .before .before .before .before .before .before .before .before .args in
-    let at = c .before .before .before .before .before .before .before .loop in
+    let a = entry (in-loop c) .args in
+    let at = in-loop c .before .loop in
     (one-more _ (at .j) (at .inv .0) (quotient-by (a .m) (a .alpha) (a .v) (a .w) (a .xs .now) (a .a .now) (a .b .now) (at .j) (c .before .before .before .before .product .ensures) (c .before .before .product2 .ensures) (c .quotient .ensures)), omega arith)
 
 returns : tie.Need-returns Inv-loop μ-loop

@@ -5,6 +5,10 @@ use borrow.Author.Needs.{needs}
 use Rattle.generator.proofs.entries.entry.Statement.{statement}
 use Rattle.generator.proofs.entries.entry.Tie as tie
 
+-- the moments of the run, each seen from a later one
+abbrev entry : tie.After-shared-slice-known9 → tie.Start
+entry c = c .before .before .before .before .before .before .before .before .before
+
 shared-slice-read-x : tie.Need-shared-slice-read-x
 shared-slice-read-x c = search needs
 
@@ -21,7 +25,7 @@ column-sum-requires : tie.Need-column-sum-requires
 column-sum-requires c κs = search needs
 
 returns : tie.Need-returns
-returns c = let a = c .before .before .before .before .before .before .before .before .before .before .before .args in entry-over (a .m) (a .xs .now) (a .l .now) (a .u .now) (a .a .now) (a .b .now) (a .count) (a .row .0) (a .s) (c .before .if1 .taken) (c .column-sum .ensures)
+returns c = let a = entry (c .before .before) .args in entry-over (a .m) (a .xs .now) (a .l .now) (a .u .now) (a .a .now) (a .b .now) (a .count) (a .row .0) (a .s) (c .before .if1 .taken) (c .column-sum .ensures)
 
 product-by-log-requires : tie.Need-product-by-log-requires
 product-by-log-requires c κs = search needs
@@ -34,7 +38,7 @@ quotient-requires c κs = search needs
 
 returns-2 : tie.Need-returns-2
 returns-2 c =
-    let s = c .before .before .before .before .before .before .before .before .before .before .before .before .before in
+    let s = entry (c .before .before .before .before) in
     let a = s .args in
     let f = s .pre .1 .1 in
     entry-away (a .m) (a .xs .now) (a .l .now) (a .u .now) (a .a .now) (a .b .now) (a .count) (a .row .0) (a .s) (c .before .before .before .if1 .left)

@@ -21,6 +21,10 @@ Inv-loop m powers logs index place count free xs l u a b row₀ j la lb s₀ i�
 abbrev μ-loop : tie.MeasureT-loop
 μ-loop m powers logs index place count free xs l u a b row₀ j la lb s₀ i₀ row s i = length row₀ - i
 
+-- the moments of the run, each seen from a later one
+abbrev entry : tie.After-shared-slice-known8 Inv-loop μ-loop → tie.Start Inv-loop μ-loop
+entry c = c .before .before .before .before .before .before .before .before .before .before
+
 shared-slice-read-factor : tie.Need-shared-slice-read-factor Inv-loop μ-loop
 shared-slice-read-factor c = let s = c .before .before .before .before .before .before .before .before in omega (arith, s .pre .1 .0 .0 .firsts, s .pre .1 .1 .0)
 
@@ -28,23 +32,23 @@ factor-requires : tie.Need-factor-requires Inv-loop μ-loop
 factor-requires c κs = let s = c .before .before .before .before .before .before .before .before in (s .pre .0 .field, s .pre .0 .is-logs)
 
 shared-slice-read-factor-2 : tie.Need-shared-slice-read-factor-2 Inv-loop μ-loop
-shared-slice-read-factor-2 c = let s = c .before .before .before .before .before .before .before .before .before .before in omega (arith, s .pre .1 .0 .0 .seconds, s .pre .1 .1 .0)
+shared-slice-read-factor-2 c = let s = entry c in omega (arith, s .pre .1 .0 .0 .seconds, s .pre .1 .1 .0)
 
 factor-requires-2 : tie.Need-factor-requires-2 Inv-loop μ-loop
-factor-requires-2 c κs = let s = c .before .before .before .before .before .before .before .before .before .before in (s .pre .0 .field, s .pre .0 .is-logs)
+factor-requires-2 c κs = let s = entry c in (s .pre .0 .field, s .pre .0 .is-logs)
 
 loop-holds : tie.Need-loop-holds Inv-loop μ-loop
 loop-holds c = (omega arith, refl, refl, omega arith)
 
 shared-slice-read-f : tie.Need-shared-slice-read-f Inv-loop μ-loop
-shared-slice-read-f c = let p = c .before .before .before .before .before .before .before .before .before .before .before .before .before .before .pre .1 .1 in omega (arith, c .before .loop-test .taken, c .before .before .loop .inv .1, p .3, p .4)
+shared-slice-read-f c = let p = entry (c .before .before .before .before) .pre .1 .1 in omega (arith, c .before .loop-test .taken, c .before .before .loop .inv .1, p .3, p .4)
 
 slice-write-row : tie.Need-slice-write-row Inv-loop μ-loop
 slice-write-row c = omega (arith, c .before .before .loop-test .taken)
 
 entry-requires : tie.Need-entry-requires Inv-loop μ-loop
 entry-requires c κs =
-    let s = c .before .before .before .before .before .before .before .before .before .before .before .before .before .before .before in
+    let s = entry (c .before .before .before .before .before) in
     let at = c .before .before .before .loop in
     (s .pre .0, (s .pre .1 .0, (s .pre .1 .1 .0, omega (arith, at .inv .3, rank-next (λ t. getD (s .args .free .now) t 0) (at .i) (length (s .args .xs .now)) (omega (arith, c .before .before .loop-test .taken, at .inv .1, s .pre .1 .1 .3)), s .pre .1 .1 .5, c .if1 .left), c .before .before .before .before .before .before .factor .ensures, c .before .before .before .before .factor2 .ensures)))
 
@@ -56,12 +60,12 @@ wide-requires c κs = search needs
 
 add-s : tie.Need-add-s Inv-loop μ-loop
 add-s c =
-    let s = c .before .before .before .before .before .before .before .before .before .before .before .before .before .before .before .before in
+    let s = entry (c .before .before .before .before .before .before) in
     let at = c .before .before .before .before .loop in
     record { fits = omega (arith, at .inv .3, c .wide .ensures, rank-next (λ t. getD (s .args .free .now) t 0) (at .i) (length (s .args .xs .now)) (omega (arith, c .before .before .before .loop-test .taken, at .inv .1, s .pre .1 .1 .3)), s .pre .1 .1 .5, s .pre .1 .0 .3) }
 
 add-i : tie.Need-add-i Inv-loop μ-loop
-add-i c = let s = c .before .before .before .before .before .before .before .before .before .before .before .before .before .before .before .before in record { fits = omega (arith, c .before .before .before .loop-test .taken, c .before .before .before .before .loop .inv .1, s .pre .1 .1 .3, s .pre .1 .0 .3) }
+add-i c = let s = entry (c .before .before .before .before .before .before) in record { fits = omega (arith, c .before .before .before .loop-test .taken, c .before .before .before .before .loop .inv .1, s .pre .1 .1 .3, s .pre .1 .0 .3) }
 
 loop-less : tie.Need-loop-less Inv-loop μ-loop
 loop-less c = search needs
@@ -69,7 +73,7 @@ loop-less c = search needs
 loop-again : tie.Need-loop-again Inv-loop μ-loop
 loop-again c =
     let at = c .before .before .before .before .loop in
-    let a = c .before .before .before .before .before .before .before .before .before .before .before .before .before .before .before .before .args in
+    let a = entry (c .before .before .before .before .before .before) .args in
     let g = entryAt (a .m) (a .xs .now) (a .l .now) (a .u .now) (a .a .now) (a .b .now) (a .count) (a .index .0) in
     let rule = symbolAt (a .count) (a .free .now) g in
     let came = c .before .if1 .came in (
@@ -83,11 +87,11 @@ loop-again c =
     )
 
 index-of-requires : tie.Need-index-of-requires Inv-loop μ-loop
-index-of-requires c κs = c .before .before .before .before .before .before .before .before .before .before .before .before .before .pre .1 .1 .1
+index-of-requires c κs = entry (c .before .before .before) .pre .1 .1 .1
 
 slice-write-row-3 : tie.Need-slice-write-row-3 Inv-loop μ-loop
 slice-write-row-3 c =
-    let own = c .before .before .before .before .before .before .before .before .before .before .before .before .before .before .pre .1 .1 in
+    let own = entry (c .before .before .before .before) .pre .1 .1 in
     omega (arith, c .index-of .ensures, own .1, own .2, c .before .before .loop .inv .1)
 
 same-length : tie.Need-same-length Inv-loop μ-loop
@@ -96,7 +100,7 @@ same-length c = simp length-set (c .before .before .loop .inv .1)
 returns : tie.Need-returns Inv-loop μ-loop
 returns c =
     let at = c .before .before .loop in
-    let s = c .before .before .before .before .before .before .before .before .before .before .before .before .before .before in
+    let s = entry (c .before .before .before .before) in
     let a = s .args in
     let full : at .i ≡ length (a .xs .now) = omega (arith, at .inv .1, s .pre .1 .1 .3) in
     let rule = symbolAt (a .count) (a .free .now) (entryAt (a .m) (a .xs .now) (a .l .now) (a .u .now) (a .a .now) (a .b .now) (a .count) (a .index .0)) in

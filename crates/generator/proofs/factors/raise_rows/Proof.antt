@@ -6,6 +6,10 @@ use borrow.Author.Needs.{needs}
 use Rattle.generator.proofs.factors.raise_rows.Statement.{statement}
 use Rattle.generator.proofs.factors.raise_rows.Tie as tie
 
+-- the moments of the run, each seen from a later one
+abbrev entry : tie.After-slice-known3 → tie.Start
+entry c = c .before .before .before .before .before .before .before .before .before .before
+
 shared-slice-read-alpha : tie.Need-shared-slice-read-alpha
 shared-slice-read-alpha c = omega (arith, c .before .before .before .before .pre .1 .0 .points)
 
@@ -16,13 +20,13 @@ take-multiples-requires : tie.Need-take-multiples-requires
 take-multiples-requires c κs = let s = c .before .before .before .before .before .before .before in (s .pre .0, (fewer-rows (s .pre .1 .0), s .pre .1 .1))
 
 find-over-requires : tie.Need-find-over-requires
-find-over-requires c κs = let s = c .before .before .before .before .before .before .before .before .before .before in (omega (arith, s .pre .1 .0 .points), s .pre .1 .1)
+find-over-requires c κs = let s = entry c in (omega (arith, s .pre .1 .0 .points), s .pre .1 .1)
 
 slice-write-a : tie.Need-slice-write-a
-slice-write-a c = let g = c .before .before .before .before .before .before .before .before .before .before .before .pre .1 .0 in omega (arith, g .firsts, c .find-over .ensures .most, c .before .before .before .take-multiples .ensures .0 .size)
+slice-write-a c = let g = entry (c .before) .pre .1 .0 in omega (arith, g .firsts, c .find-over .ensures .most, c .before .before .before .take-multiples .ensures .0 .size)
 
 slice-write-a-2 : tie.Need-slice-write-a-2
-slice-write-a-2 c = let g = c .before .before .before .before .before .before .before .before .before .before .before .pre .1 .0 in simp length-set (omega (arith, g .firsts, c .before .before .before .take-multiples .ensures .0 .size))
+slice-write-a-2 c = let g = entry (c .before) .pre .1 .0 in simp length-set (omega (arith, g .firsts, c .before .before .before .take-multiples .ensures .0 .size))
 
 slice-write-b : tie.Need-slice-write-b
 slice-write-b c = search needs
@@ -35,7 +39,7 @@ same-length-2 c = search needs
 
 returns : tie.Need-returns
 returns c =
-    let s = c .before .before .before .before .before .before .before .before .before .before .before in
+    let s = entry (c .before) in
     let a = s .args in
     let t = c .before .before .before .take-multiples .ensures in
     rows-raised (a .m) (a .index .0) (a .rc) (a .t) (a .xs .now) (a .a .now) (a .b .now) (s .pre .1 .0) (c .before .before .before .before .before .before .inverse .ensures) (t .0) (t .1) (c .find-over .ensures)

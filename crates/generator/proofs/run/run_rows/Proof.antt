@@ -20,6 +20,16 @@ Inv-loop m powers logs xs count l₀ u₀ a₀ b₀ n₀ last i₀ l u a b n i =
 abbrev μ-loop : tie.MeasureT-loop
 μ-loop m powers logs xs count l₀ u₀ a₀ b₀ n₀ last i₀ l u a b n i = last - i
 
+-- the moments of the run, each seen from a later one
+abbrev start : tie.After-first-sizes Inv-loop μ-loop → tie.Start Inv-loop μ-loop
+start c = c .before .before .before .before .before .before .before .before .before .before
+
+abbrev after-rows-turn : tie.After-slice-known9 Inv-loop μ-loop → tie.After-rows-turn Inv-loop μ-loop
+after-rows-turn c = c .before .before .before .before .before .before .before .before
+
+abbrev in-loop : tie.After-slice-known9 Inv-loop μ-loop → tie.In-loop Inv-loop μ-loop
+in-loop c = after-rows-turn c .before .before .before .before .before
+
 fill-ones-requires : tie.Need-fill-ones-requires Inv-loop μ-loop
 fill-ones-requires c κs = search needs
 
@@ -27,7 +37,7 @@ first-sizes-requires : tie.Need-first-sizes-requires Inv-loop μ-loop
 first-sizes-requires c κs = search needs
 
 sub-last : tie.Need-sub-last Inv-loop μ-loop
-sub-last c = omega (arith, c .before .before .before .before .before .before .before .before .before .before .pre .1 .0 .3)
+sub-last c = omega (arith, start c .pre .1 .0 .3)
 
 loop-holds : tie.Need-loop-holds Inv-loop μ-loop
 unfolding after
@@ -42,29 +52,29 @@ loop-holds c =
 rows-turn-requires : tie.Need-rows-turn-requires Inv-loop μ-loop
 rows-turn-requires c κs =
     let loop = c .before .before .before .before .before in
-    let entry = loop .before .before .before .before .before .before .before .before .before .before .before in
+    let entry = start (loop .before) in
     let v = loop .loop .inv in
     let t = c .before .before .before .before .loop-test .taken in
     (entry .pre .0, (fits (v .0) (v .1) (entry .pre .1 .1 .0 .small (loop .loop .i) (omega (arith, t))) (v .5), rows-sized (omega (arith, t)) (v .2) (v .3) (entry .pre .1 .0 .2), entry .pre .1 .0 .4))
 
 add-i : tie.Need-add-i Inv-loop μ-loop
 add-i c =
-    let loop = c .before .before .before .before .before .before .before .before .before .before .before .before .before .before in
-    let p = loop .before .before .before .before .before .before .before .before .before .before .before .pre .1 .0 in
-    record { fits = omega (arith, c .before .before .before .before .before .before .before .before .before .before .before .before .before .loop-test .taken, p .2 .points, p .4) }
+    let loop = in-loop c .before in
+    let p = start (loop .before) .pre .1 .0 in
+    record { fits = omega (arith, in-loop c .loop-test .taken, p .2 .points, p .4) }
 
 loop-less : tie.Need-loop-less Inv-loop μ-loop
 loop-less c = search needs
 
 loop-again : tie.Need-loop-again Inv-loop μ-loop
 loop-again c =
-    let loop = c .before .before .before .before .before .before .before .before .before .before .before .before .before .before in
-    let entry = loop .before .before .before .before .before .before .before .before .before .before .before in
+    let loop = in-loop c .before in
+    let entry = start (loop .before) in
     let g = entry .args in
     let at = loop .loop in
     let v = at .inv in
-    let t = c .before .before .before .before .before .before .before .before .before .before .before .before .before .loop-test .taken in
-    let r = c .before .before .before .before .before .before .before .before .rows-turn .ensures in
+    let t = in-loop c .loop-test .taken in
+    let r = after-rows-turn c .rows-turn .ensures in
     let ys = g .u .now in
     let inside : at .i < length (g .xs .now) = omega (arith, entry .pre .1 .0 .2 .points) in
     let pair = r .0 .next ys (at .i) _ 0 (omega arith) (omega arith) (entry .pre .1 .1 .0 .small (at .i) (omega arith)) (v .5) in (
@@ -78,10 +88,10 @@ loop-again c =
     )
 
 same-length : tie.Need-same-length Inv-loop μ-loop
-same-length c = c .before .loop .inv .0 ∙ sym (c .before .before .before .before .before .before .before .before .before .before .before .before .pre .1 .0 .1)
+same-length c = c .before .loop .inv .0 ∙ sym (start (c .before .before) .pre .1 .0 .1)
 
 same-length-2 : tie.Need-same-length-2 Inv-loop μ-loop
-same-length-2 c = c .before .loop .inv .1 ∙ sym (c .before .before .before .before .before .before .before .before .before .before .before .before .pre .1 .0 .0 .as-many)
+same-length-2 c = c .before .loop .inv .1 ∙ sym (start (c .before .before) .pre .1 .0 .0 .as-many)
 
 same-length-3 : tie.Need-same-length-3 Inv-loop μ-loop
 same-length-3 c = c .before .loop .inv .2
@@ -92,7 +102,7 @@ same-length-4 c = c .before .loop .inv .3
 returns : tie.Need-returns Inv-loop μ-loop
 returns c =
     let at = c .before .loop in
-    let full : at .i ≡ c .before .before .before .before .before .before .before .before .before .before .before .before .args .count - 1 = omega arith in
+    let full : at .i ≡ start (c .before .before) .args .count - 1 = omega arith in
     rw (← full) (at .inv .5, at .inv .6)
 
 pub run-rows-spec : {M : Type 1} → statement M

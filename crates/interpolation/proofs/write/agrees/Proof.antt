@@ -21,6 +21,13 @@ Inv-loop m powers logs xs ys places symbols f i₀ i =
 abbrev μ-loop : tie.MeasureT-loop
 μ-loop m powers logs xs ys places symbols f i₀ i = length places - i
 
+-- the moments of the run, each seen from a later one
+abbrev start : tie.At-loop Inv-loop μ-loop → tie.Start Inv-loop μ-loop
+start c = c .before .before .before .before .before .before
+
+abbrev in-loop : tie.After-message-symbol Inv-loop μ-loop → tie.In-loop Inv-loop μ-loop
+in-loop c = c .before .before .before .before
+
 loop-holds : tie.Need-loop-holds Inv-loop μ-loop
 loop-holds c = refl
 
@@ -29,7 +36,7 @@ chosen-place-requires c κs = search needs
 
 point-at-requires : tie.Need-point-at-requires Inv-loop μ-loop
 point-at-requires c κs =
-    let entry = c .before .before .before .before .before .before .before .before in
+    let entry = start (c .before .before) in
     rw (c .chosen-place .ensures) (entry .pre .1 .0 .is-place (c .before .before .loop .i) (c .before .loop-test .taken))
 
 value-requires : tie.Need-value-requires Inv-loop μ-loop
@@ -37,15 +44,15 @@ value-requires c κs = search needs
 
 message-symbol-requires : tie.Need-message-symbol-requires Inv-loop μ-loop
 message-symbol-requires c κs =
-    let entry = c .before .before .before .before .before .before .before .before .before .before in
+    let entry = start (c .before .before .before .before) in
     omega (arith, entry .pre .1 .1, c .before .before .before .loop-test .taken)
 
 returns : tie.Need-returns Inv-loop μ-loop
 returns c =
-    let entry = c .before .before .before .before .before .before .before .before .before .before .before .before in
+    let entry = start (in-loop (c .before) .before) in
     let a = entry .args in
-    let at = c .before .before .before .before .before .before .loop in
-    let t = c .before .before .before .before .before .loop-test .taken in
+    let at = in-loop (c .before) .before .loop in
+    let t = in-loop (c .before) .loop-test .taken in
     let F = galois (a .m) in
     let point = rw (c .before .before .before .before .chosen-place .ensures) at (c .before .before .before .point-at .ensures) in
     let value = value-at (a .xs .now) (a .ys .now) (a .places .now) (at .i) t F (a .f .now) point (c .before .before .value .ensures) in
@@ -60,10 +67,10 @@ loop-less c = search needs
 
 loop-again : tie.Need-loop-again Inv-loop μ-loop
 loop-again c =
-    let entry = c .before .before .before .before .before .before .before .before .before .before .before .before in
+    let entry = start (in-loop (c .before) .before) in
     let a = entry .args in
-    let at = c .before .before .before .before .before .before .loop in
-    let t = c .before .before .before .before .before .loop-test .taken in
+    let at = in-loop (c .before) .before .loop in
+    let t = in-loop (c .before) .loop-test .taken in
     let F = galois (a .m) in
     let point = rw (c .before .before .before .before .chosen-place .ensures) at (c .before .before .before .point-at .ensures) in
     let value = value-at (a .xs .now) (a .ys .now) (a .places .now) (at .i) t F (a .f .now) point (c .before .before .value .ensures) in
@@ -72,7 +79,7 @@ loop-again c =
 
 returns-2 : tie.Need-returns-2 Inv-loop μ-loop
 returns-2 c =
-    let entry = c .before .before .before .before .before .before .before in
+    let entry = start (c .before) in
     let a = entry .args in
     let at = c .before .loop in
     let F = galois (a .m) in

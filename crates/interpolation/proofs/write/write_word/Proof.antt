@@ -16,6 +16,10 @@ Inv-loop m powers logs xs ys f out₀ i₀ out i = (i ≤ length out₀) × (len
 abbrev μ-loop : tie.MeasureT-loop
 μ-loop m powers logs xs ys f out₀ i₀ out i = length out₀ - i
 
+-- the moments of the run, each seen from a later one
+abbrev entry : tie.At-loop Inv-loop μ-loop → tie.Start Inv-loop μ-loop
+entry c = c .before .before .before .before .before
+
 loop-holds : tie.Need-loop-holds Inv-loop μ-loop
 loop-holds c = (omega arith, refl, refl)
 
@@ -40,7 +44,7 @@ loop-less c = search needs
 loop-again : tie.Need-loop-again Inv-loop μ-loop
 loop-again c =
     let at = c .before .before .before .before in
-    let a = c .before .before .before .before .before .before .before .before .before .args in
+    let a = entry (c .before .before .before .before) .args in
     (omega arith, simp length-set (at .loop .inv .1), filled-turn (valueAt (a .m) (a .xs .now) (a .ys .now) (a .f .now)) (a .out .now) (at .loop .i) (omega arith) (at .loop .inv .2) (c .value .ensures))
 
 same-length : tie.Need-same-length Inv-loop μ-loop
@@ -49,7 +53,7 @@ same-length c = c .before .loop .inv .1
 returns : tie.Need-returns Inv-loop μ-loop
 returns c =
     let at = c .before in
-    let a = c .before .before .before .before .before .before .args in
+    let a = entry (c .before) .args in
     let g = valueAt (a .m) (a .xs .now) (a .ys .now) (a .f .now) in
     let full : at .loop .i ≡ length (a .out .now) = omega arith in
     at .loop .inv .2 ∙ filled-all g (a .out .now) (at .loop .i) (omega arith) ∙ ap (table g) full

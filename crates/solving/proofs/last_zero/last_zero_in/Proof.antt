@@ -9,21 +9,31 @@ use borrow.Author.Needs.{needs}
 use Rattle.solving.proofs.last_zero.last_zero_in.Statement.{statement}
 use Rattle.solving.proofs.last_zero.last_zero_in.Tie as tie
 
+-- the moments of the run, each seen from a later one
+abbrev entry : tie.After-gather-arg → tie.Start
+entry c = c .before .before .before .before .before .before .before .before
+
+abbrev after-gather2 : tie.After-zero-at-last-arg4 → tie.After-gather2
+after-gather2 c = c .before .before .before .before .before .before
+
+abbrev after-gather : tie.After-zero-at-last-arg4 → tie.After-gather
+after-gather c = after-gather2 c .before .before .before .before
+
 gather-requires : tie.Need-gather-requires
-gather-requires c κs = let s = c .before .before .before .before .before .before .before .before in are-chosen (s .pre .1 .0 .0) (s .args .xs .now) refl _ (omega (arith, s .pre .1 .1 .0, s .pre .1 .0 .1))
+gather-requires c κs = let s = entry c in are-chosen (s .pre .1 .0 .0) (s .args .xs .now) refl _ (omega (arith, s .pre .1 .1 .0, s .pre .1 .0 .1))
 
 gather-requires-2 : tie.Need-gather-requires-2
-gather-requires-2 c κs = let s = c .before .before .before .before .before .before .before .before .before .before .before .before in are-chosen (s .pre .1 .0 .0) (s .args .ys .now) (sym (accepted (s .pre .1 .0 .0) .lengths)) _ (omega (arith, s .pre .1 .1 .1, s .pre .1 .0 .1))
+gather-requires-2 c κs = let s = entry (c .before .before .before .before) in are-chosen (s .pre .1 .0 .0) (s .args .ys .now) (sym (accepted (s .pre .1 .0 .0) .lengths)) _ (omega (arith, s .pre .1 .1 .1, s .pre .1 .0 .1))
 
 zero-at-last-requires : tie.Need-zero-at-last-requires
 zero-at-last-requires c κs =
-    let s = c .before .before .before .before .before .before .before .before .before .before .before .before .before .before .before .before .before .before .before in
+    let s = entry (after-gather c .before) in
     let a = s .args in
     let p = s .pre .1 .0 .0 in
     let h = s .pre .1 .0 .1 in
-    let ex = c .before .before .before .before .before .before .before .before .before .before .gather .ensures ∙ ap (table (coordinateAt (a .xs .now) (a .places .now))) (s .pre .1 .1 .0) in
-    let ey = c .before .before .before .before .before .before .gather2 .ensures ∙ ap (table (coordinateAt (a .ys .now) (a .places .now))) (s .pre .1 .1 .1) in
-    let size = c .before .before .before .before .before .before .before .before .before .before .gather .kept .1 .1 .0 ∙ s .pre .1 .1 .0 in
+    let ex = after-gather c .gather .ensures ∙ ap (table (coordinateAt (a .xs .now) (a .places .now))) (s .pre .1 .1 .0) in
+    let ey = after-gather2 c .gather2 .ensures ∙ ap (table (coordinateAt (a .ys .now) (a .places .now))) (s .pre .1 .1 .1) in
+    let size = after-gather c .gather .kept .1 .1 .0 ∙ s .pre .1 .1 .0 in
     (s .pre .0, ((gathered-coordinates p h ex ey, s .pre .1 .1 .2 ∙ sym size, s .pre .1 .1 .3 ∙ sym size), (gathered-runs p h ex ey, omega (arith, size, accepted p .k-least))))
 
 same-length : tie.Need-same-length
@@ -40,10 +50,10 @@ same-length-4 c = search needs
 
 returns : tie.Need-returns
 returns c =
-    let s = c .before .before .before .before .before .before .before .before .before .before .before .before .before .before .before .before .before .before .before .before .before .before .before .before in
+    let s = entry (after-gather (c .before .before .before .before .before) .before) in
     let a = s .args in
-    let ex = c .before .before .before .before .before .before .before .before .before .before .before .before .before .before .before .gather .ensures ∙ ap (table (coordinateAt (a .xs .now) (a .places .now))) (s .pre .1 .1 .0) in
-    let ey = c .before .before .before .before .before .before .before .before .before .before .before .gather2 .ensures ∙ ap (table (coordinateAt (a .ys .now) (a .places .now))) (s .pre .1 .1 .1) in
+    let ex = after-gather (c .before .before .before .before .before) .gather .ensures ∙ ap (table (coordinateAt (a .xs .now) (a .places .now))) (s .pre .1 .1 .0) in
+    let ey = after-gather2 (c .before .before .before .before .before) .gather2 .ensures ∙ ap (table (coordinateAt (a .ys .now) (a .places .now))) (s .pre .1 .1 .1) in
     gathered-zero (s .pre .1 .0 .0) (s .pre .1 .0 .1) ex ey (c .before .before .before .before .zero-at-last .ensures)
 
 pub last-zero-in-spec : {M : Type 1} → statement M

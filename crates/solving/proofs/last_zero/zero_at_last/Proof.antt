@@ -8,6 +8,10 @@ use borrow.Author.Needs.{needs}
 use Rattle.solving.proofs.last_zero.zero_at_last.Statement.{statement}
 use Rattle.solving.proofs.last_zero.zero_at_last.Tie as tie
 
+-- the moments of the run, each seen from a later one
+abbrev entry : tie.After-zero-chosen → tie.Start
+entry c = c .before .before .before .before .before .before .before .before .before .before .before .before .before .before
+
 sub-last : tie.Need-sub-last
 sub-last c = search needs
 
@@ -25,7 +29,7 @@ same-length-2 c = search needs
 
 returns : tie.Need-returns
 returns c =
-    let s = c .before .before .before .before .before .before .before .before .before .before .before .before .before .before in
+    let s = entry c in
     c .zero-chosen .ensures ∙ ap (λ v. eqb v 0) (c .before .before .before .before .before .before .before .run-pair .ensures .low-values .at (length (s .args .xs .now) - 1) (omega arith) (omega (arith, s .pre .1 .1 .1)))
 
 pub zero-at-last-spec : {M : Type 1} → statement M

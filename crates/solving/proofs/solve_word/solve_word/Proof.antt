@@ -6,20 +6,24 @@ use borrow.Author.Needs.{needs}
 use Rattle.solving.proofs.solve_word.solve_word.Statement.{statement}
 use Rattle.solving.proofs.solve_word.solve_word.Tie as tie
 
+-- the moments of the run, each seen from a later one
+abbrev entry : tie.After-slice-known → tie.Start
+entry c = c .before .before .before .before .before
+
 array-borrow-prefix-l : tie.Need-array-borrow-prefix-l
-array-borrow-prefix-l c = accepted (c .before .before .before .before .before .pre .1 .0 .placed) .n-most
+array-borrow-prefix-l c = accepted (entry c .pre .1 .0 .placed) .n-most
 
 slice-aggregate-solve-word-in : tie.Need-slice-aggregate-solve-word-in
-slice-aggregate-solve-word-in c = sym (length-take-le _ _ (accepted (c .before .before .before .before .before .before .pre .1 .0 .placed) .n-most))
+slice-aggregate-solve-word-in c = sym (length-take-le _ _ (accepted (entry (c .before) .pre .1 .0 .placed) .n-most))
 
 array-borrow-prefix-u : tie.Need-array-borrow-prefix-u
-array-borrow-prefix-u c = accepted (c .before .before .before .before .before .before .pre .1 .0 .placed) .n-most
+array-borrow-prefix-u c = accepted (entry (c .before) .pre .1 .0 .placed) .n-most
 
 slice-aggregate-solve-word-in-2 : tie.Need-slice-aggregate-solve-word-in-2
-slice-aggregate-solve-word-in-2 c = sym (length-take-le _ _ (accepted (c .before .before .before .before .before .before .before .pre .1 .0 .placed) .n-most))
+slice-aggregate-solve-word-in-2 c = sym (length-take-le _ _ (accepted (entry (c .before .before) .pre .1 .0 .placed) .n-most))
 
 solve-word-in-requires : tie.Need-solve-word-in-requires
-solve-word-in-requires c κs = let pre = c .before .before .before .before .before .before .before .before .pre in let most = accepted (pre .1 .0 .placed) .n-most in (pre .0, (pre .1 .0, length-take-le _ _ most, length-take-le _ _ most, pre .1 .1))
+solve-word-in-requires c κs = let pre = entry (c .before .before .before) .pre in let most = accepted (pre .1 .0 .placed) .n-most in (pre .0, (pre .1 .0, length-take-le _ _ most, length-take-le _ _ most, pre .1 .1))
 
 same-length : tie.Need-same-length
 same-length c = search needs

@@ -18,6 +18,10 @@ use borrow.Author.Needs.{needs}
 use Rattle.solving.proofs.tests.test_lists.Statement.{statement}
 use Rattle.solving.proofs.tests.test_lists.Tie as tie
 
+-- the moments of the run, each seen from a later one
+abbrev entry : tie.After-enum-told → tie.Start
+entry c = c .before .before .before .before .before .before .before
+
 test-places-requires : tie.Need-test-places-requires
 test-places-requires c κs = accepted-done _ (c .before .before .before .before .pre) .n-most
 
@@ -25,15 +29,15 @@ enum-told : tie.Need-enum-told
 enum-told c = search needs
 
 -- what the tests say that were passed
-passed : (c : tie.After-enum-told) → let a = c .before .before .before .before .before .before .before .args in placesAnswer (length (a .xs .now)) (a .places .now) ≡ Done
+passed : (c : tie.After-enum-told) → let a = entry c .args in placesAnswer (length (a .xs .now)) (a .places .now) ≡ Done
 passed c = sym (c .before .before .test-places .ensures) ∙ c .enum-told .given .1
 
-says : (c : tie.After-all-below) → let a = c .before .before .before .before .before .before .before .before .before .args in symbols (codeOf (a .p) (a .xs .now) (a .ys .now)) (a .symbols .now) ≡ c .all-below .result
+says : (c : tie.After-all-below) → let a = entry (c .before .before) .args in symbols (codeOf (a .p) (a .xs .now) (a .ys .now)) (a .symbols .now) ≡ c .all-below .result
 unfolding symbols
-says c = ap (λ q. all (isBelow q) (c .before .before .before .before .before .before .before .before .before .args .symbols .now)) (sym (c .before .size .ensures)) ∙ sym (c .all-below .ensures)
+says c = ap (λ q. all (isBelow q) (entry (c .before .before) .args .symbols .now)) (sym (c .before .size .ensures)) ∙ sym (c .all-below .ensures)
 
 size-requires : tie.Need-size-requires
-size-requires c κs = accepted-done _ (c .before .before .before .before .before .before .before .pre) .field
+size-requires c κs = accepted-done _ (entry c .pre) .field
 
 all-below-requires : tie.Need-all-below-requires
 all-below-requires c κs = search needs

@@ -11,25 +11,29 @@ use Rattle.solving.proofs.Link.{accepted, within, points-same}
 use Rattle.solving.proofs.words.agrees_all.Statement.{statement}
 use Rattle.solving.proofs.words.agrees_all.Tie as tie
 
+-- the moments of the run, each seen from a later one
+abbrev entry : tie.After-agrees-arg → tie.Start
+entry c = c .before .before .before .before .before .before .before
+
 powers-requires : tie.Need-powers-requires
 powers-requires c κs = accepted (c .before .before .before .before .before .pre .0) .field
 
 logarithms-requires : tie.Need-logarithms-requires
-logarithms-requires c κs = accepted (c .before .before .before .before .before .before .before .pre .0) .field
+logarithms-requires c κs = accepted (entry c .pre .0) .field
 
 slice-aggregate-agrees : tie.Need-slice-aggregate-agrees
-slice-aggregate-agrees c = let s = c .before .before .before .before .before .before .before .before .before .before in sym (length-take-le (s .args .p .k) (s .args .f .now) (s .pre .1 .0))
+slice-aggregate-agrees c = let s = entry (c .before .before .before) in sym (length-take-le (s .args .p .k) (s .args .f .now) (s .pre .1 .0))
 
 agrees-requires : tie.Need-agrees-requires
 agrees-requires c κs =
-    let s = c .before .before .before .before .before .before .before .before .before .before in (
+    let s = entry (c .before .before .before) in (
       record { field = accepted (s .pre .0) .field; is-powers = c .before .before .before .before .powers .ensures; is-logs = c .before .before .logarithms .ensures },
       (within (s .pre .0) (length (s .args .places .now)) (omega arith), s .pre .1 .1),
     )
 
 returns : tie.Need-returns
 returns c =
-    let s = c .before .before .before .before .before .before .before .before .before .before .before in
+    let s = entry (c .before .before .before .before) in
     let a = s .args in
     c .agrees .ensures ∙ ap (λ l. same (map (evaluate (galois (a .p .field)) (take (a .p .k) (a .f .now))) l) (a .symbols .now)) (points-same (s .pre .0))
 

@@ -26,6 +26,10 @@ Inv-loop f places symbols i₀ i = same (drop i (map (symbol f) places)) (drop i
 abbrev μ-loop : tie.MeasureT-loop
 μ-loop f places symbols i₀ i = length places - i
 
+-- the moments of the run, each seen from a later one
+abbrev entry : tie.After-chosen-place Inv-loop μ-loop → tie.Start Inv-loop μ-loop
+entry c = c .before .before .before .before .before .before
+
 loop-holds : tie.Need-loop-holds Inv-loop μ-loop
 unfolding agrees symbolAt
 loop-holds c = refl
@@ -35,20 +39,20 @@ chosen-place-requires c κs = search needs
 
 index-of-requires : tie.Need-index-of-requires Inv-loop μ-loop
 index-of-requires c κs =
-    let s = c .before .before .before .before .before .before in
+    let s = entry c in
     omega (arith, c .chosen-place .ensures, place-at (length (s .args .f .now)) (s .args .places .now) (s .pre .0) (c .before .before .loop .i) (c .before .loop-test .taken) .0)
 
 shared-slice-read-if1 : tie.Need-shared-slice-read-if1 Inv-loop μ-loop
 shared-slice-read-if1 c =
-    let s = c .before .before .before .before .before .before .before .before in
+    let s = entry (c .before .before) in
     omega (arith, c .before .index-of .ensures, c .before .before .chosen-place .ensures, place-at (length (s .args .f .now)) (s .args .places .now) (s .pre .0) (c .before .before .before .before .loop .i) (c .before .before .before .loop-test .taken) .1)
 
 message-symbol-requires : tie.Need-message-symbol-requires Inv-loop μ-loop
-message-symbol-requires c κs = omega (arith, c .before .before .before .loop-test .taken, c .before .before .before .before .before .before .before .before .pre .1)
+message-symbol-requires c κs = omega (arith, c .before .before .before .loop-test .taken, entry (c .before .before) .pre .1)
 
 returns : tie.Need-returns Inv-loop μ-loop
 returns c =
-    let s = c .before .before .before .before .before .before .before .before .before .before in
+    let s = entry (c .before .before .before .before) in
     let a = s .args in
     let at = c .before .before .before .before .before .before .loop in
     let t = c .before .before .before .before .before .loop-test .taken in
@@ -63,7 +67,7 @@ loop-less c = search needs
 
 loop-again : tie.Need-loop-again Inv-loop μ-loop
 loop-again c =
-    let s = c .before .before .before .before .before .before .before .before .before .before in
+    let s = entry (c .before .before .before .before) in
     let a = s .args in
     let at = c .before .before .before .before .before .before .loop in
     let t = c .before .before .before .before .before .loop-test .taken in

@@ -12,9 +12,13 @@ use borrow.Author.Needs.{needs}
 use Rattle.text.proofs.reading.read_exactly.Statement.{statement}
 use Rattle.text.proofs.reading.read_exactly.Tie as tie
 
-is-line : (c : tie.After-listed) → let s = c .before .before .before .before .before .before .before .before .before .args in
+-- the moments of the run, each seen from a later one
+abbrev entry : tie.After-slice-known2 → tie.Start
+entry c = c .before .before .before .before .before .before .before
+
+is-line : (c : tie.After-listed) → let s = entry (c .before .before) .args in
     line (s .key .now) (length (s .out .now)) (drop (s .start) (s .s .now)) ≡ got (take (c .listed .given .0 .0) (c .before .before .before .before .read-line .last .1 .1 .1 .0)) (drop (c .listed .given .0 .1 .0) (s .s .now))
-is-line c = sym (c .before .before .before .before .read-line .ensures .reads) ∙ ap (listIn (c .before .before .before .before .before .before .before .before .before .args .s .now) (c .before .before .before .before .read-line .last .1 .1 .1 .0)) (c .listed .given .1)
+is-line c = sym (c .before .before .before .before .read-line .ensures .reads) ∙ ap (listIn (entry (c .before .before) .args .s .now) (c .before .before .before .before .read-line .last .1 .1 .1 .0)) (c .listed .given .1)
 
 few : (c : tie.After-listed) → c .listed .given .0 .0 ≤ length (c .before .before .before .before .read-line .last .1 .1 .1 .0)
 few c = rw (c .listed .given .1) at (c .before .before .before .before .read-line .ensures .within)
@@ -33,7 +37,7 @@ same-length c = search needs
 
 returns : tie.Need-returns
 returns c =
-    let s = c .before .before .before .before .before .before .before .before .before .args in
+    let s = entry (c .before .before) .args in
     no-line (s .key .now) (length (s .out .now)) (drop (s .start) (s .s .now)) (sym (c .before .before .before .before .read-line .ensures .reads) ∙ ap (listIn (s .s .now) _) (c .enum-told .given .1))
 
 same-length-2 : tie.Need-same-length-2
@@ -41,7 +45,7 @@ same-length-2 c = search needs
 
 returns-2 : tie.Need-returns-2
 returns-2 c =
-    let s = c .before .before .before .before .before .before .before .before .before .before .before .args in
+    let s = entry (c .before .before .before .before) .args in
     let n = c .before .before .listed .given .0 .0 in
     let out = c .before .before .before .before .before .before .read-line .last .1 .1 .1 .0 in
     other-count (s .key .now) (length (s .out .now)) (drop (s .start) (s .s .now)) _ _ (is-line (c .before .before))
@@ -52,7 +56,7 @@ same-length-3 c = search needs
 
 returns-3 : tie.Need-returns-3
 returns-3 c =
-    let s = c .before .before .before .before .before .before .before .before .before .before .before .args in
+    let s = entry (c .before .before .before .before) .args in
     let n = c .before .before .listed .given .0 .0 in
     let out = c .before .before .before .before .before .before .read-line .last .1 .1 .1 .0 in
     let next = c .before .before .listed .given .0 .1 .0 in

@@ -18,10 +18,17 @@ Inv-loop s start out₀ at₀ count₀ out at count = (length out ≡ length out
 abbrev μ-loop : tie.MeasureT-loop
 μ-loop s start out₀ at₀ count₀ out at count = length out₀ - count
 
+-- the moments of the run, each seen from a later one
+abbrev entry : tie.After-read Inv-loop μ-loop → tie.Start Inv-loop μ-loop
+entry c = c .before .before .before .before .before .before .before
+
+abbrev at-loop : tie.After-is-next Inv-loop μ-loop → tie.At-loop Inv-loop μ-loop
+at-loop c = c .before .before .before .before .before .before
+
 -- a number was read
-is-number : (c : tie.After-read Inv-loop μ-loop) → let s = c .before .before .before .before .before .before .before .args in
+is-number : (c : tie.After-read Inv-loop μ-loop) → let s = entry c .args in
     number (drop (c .before .before .before .before .loop .at) (s .s .now)) ≡ got (c .read .given .0 .0) (drop (c .read .given .0 .1 .0) (s .s .now))
-is-number c = let s = c .before .before .before .before .before .before .before .args in sym (c .before .before .read-number .ensures) ∙ ap (numberIn (s .s .now)) (c .read .given .1)
+is-number c = let s = entry c .args in sym (c .before .before .read-number .ensures) ∙ ap (numberIn (s .s .now)) (c .read .given .1)
 
 loop-holds : tie.Need-loop-holds Inv-loop μ-loop
 loop-holds c = (refl, omega arith, start _ _)
@@ -59,11 +66,11 @@ is-next-requires : tie.Need-is-next-requires Inv-loop μ-loop
 is-next-requires c κs = search needs
 
 same-length-2 : tie.Need-same-length-2 Inv-loop μ-loop
-same-length-2 c = rw length-set (c .before .before .before .before .before .before .before .loop .inv .0)
+same-length-2 c = rw length-set (at-loop (c .before) .loop .inv .0)
 
 returns-2 : tie.Need-returns-2 Inv-loop μ-loop
 returns-2 c =
-    let l = c .before .before .before .before .before .before .before in
+    let l = at-loop (c .before) in
     let s = l .before .before .before .args in
     let v = c .before .before .before .read .given .0 .0 in
     lists-last (s .s .now) (l .loop .out) (l .loop .count) v (c .before .before .before .read .given .0 .1 .0) (omega arith)
@@ -72,7 +79,7 @@ returns-2 c =
 
 add-at : tie.Need-add-at Inv-loop μ-loop
 add-at c =
-    let s = c .before .before .before .before .before .before .before .before .before .before .args in
+    let s = entry (c .before .before .before) .args in
     omega (arith, next-there _ (s .s .now) (c .before .before .before .read .given .0 .1 .0) (sym (c .before .is-next .ensures) ∙ not-false _ (c .if1 .left)))
 
 loop-less : tie.Need-loop-less Inv-loop μ-loop
@@ -80,7 +87,7 @@ loop-less c = search needs
 
 loop-again : tie.Need-loop-again Inv-loop μ-loop
 loop-again c =
-    let l = c .before .before .before .before .before .before .before in
+    let l = at-loop (c .before) in
     let s = l .before .before .before .args in
     let v = c .before .before .before .read .given .0 .0 in
     let next = c .before .before .before .read .given .0 .1 .0 in (

@@ -9,6 +9,16 @@ use borrow.Author.Needs.{needs}
 use Rattle.text.proofs.sheet.read_header.Statement.{statement}
 use Rattle.text.proofs.sheet.read_header.Tie as tie
 
+-- the moments of the run, each seen from a later one
+abbrev entry : tie.After-first → tie.Start
+entry c = c .before .before .before .before .before .before .before
+
+abbrev after-first : tie.After-second → tie.After-first
+after-first c = c .before .before .before .before .before .before .before
+
+abbrev after-second : tie.After-dimension2 → tie.After-second
+after-second c = c .before .before .before .before .before
+
 slice-aggregate-read-exactly : tie.Need-slice-aggregate-read-exactly
 slice-aggregate-read-exactly c = search needs
 
@@ -25,12 +35,12 @@ enum-told : tie.Need-enum-told
 enum-told c = search needs
 
 -- what was read so far
-field-read : (c : tie.After-first) → let s = c .before .before .before .before .before .before .before .args in exactly fieldKey 1 (s .s .now) ≡ got (c .before .before .before .read-exactly .last .1 .1 .1 .0) (drop (c .first .given .0 .0) (s .s .now))
-field-read c = sym (c .before .before .before .read-exactly .ensures) ∙ ap (allIn (c .before .before .before .before .before .before .before .args .s .now) (c .before .before .before .read-exactly .last .1 .1 .1 .0)) (c .first .given .1)
+field-read : (c : tie.After-first) → let s = entry c .args in exactly fieldKey 1 (s .s .now) ≡ got (c .before .before .before .read-exactly .last .1 .1 .1 .0) (drop (c .first .given .0 .0) (s .s .now))
+field-read c = sym (c .before .before .before .read-exactly .ensures) ∙ ap (allIn (entry c .args .s .now) (c .before .before .before .read-exactly .last .1 .1 .1 .0)) (c .first .given .1)
 
-curve-read : (c : tie.After-second) → let s = c .before .before .before .before .before .before .before .before .before .before .before .before .before .before .args in
-    exactly curveKey 5 (drop (c .before .before .before .before .before .before .before .first .given .0 .0) (s .s .now)) ≡ got (c .before .before .before .read-exactly2 .last .1 .1 .1 .0) (drop (c .second .given .0 .0) (s .s .now))
-curve-read c = sym (c .before .before .before .read-exactly2 .ensures) ∙ ap (allIn (c .before .before .before .before .before .before .before .before .before .before .before .before .before .before .args .s .now) (c .before .before .before .read-exactly2 .last .1 .1 .1 .0)) (c .second .given .1)
+curve-read : (c : tie.After-second) → let s = entry (after-first c) .args in
+    exactly curveKey 5 (drop (after-first c .first .given .0 .0) (s .s .now)) ≡ got (c .before .before .before .read-exactly2 .last .1 .1 .1 .0) (drop (c .second .given .0 .0) (s .s .now))
+curve-read c = sym (c .before .before .before .read-exactly2 .ensures) ∙ ap (allIn (entry (after-first c) .args .s .now) (c .before .before .before .read-exactly2 .last .1 .1 .1 .0)) (c .second .given .1)
 
 returns : tie.Need-returns
 returns c =
@@ -54,7 +64,7 @@ enum-told-2 c = search needs
 
 returns-2 : tie.Need-returns-2
 returns-2 c =
-    let s = c .before .before .before .before .before .before .before .before .before .before .before .before .before .before .args in
+    let s = entry (c .before .before .before .before .before .before .before) .args in
     no-curve (s .s .now) _ _ (field-read (c .before .before .before .before .before .before .before)) (sym (c .before .before .before .read-exactly2 .ensures) ∙ ap (allIn (s .s .now) _) (c .enum-told2 .given .1))
 
 slice-aggregate-read-exactly-5 : tie.Need-slice-aggregate-read-exactly-5
@@ -74,8 +84,8 @@ enum-told-3 c = search needs
 
 returns-3 : tie.Need-returns-3
 returns-3 c =
-    let s = c .before .before .before .before .before .before .before .before .before .before .before .before .before .before .before .before .before .before .before .before .before .args in
-    no-dimension (s .s .now) _ _ (field-read (c .before .before .before .before .before .before .before .before .before .before .before .before .before .before)) _ _ (curve-read (c .before .before .before .before .before .before .before)) (sym (c .before .before .before .read-exactly3 .ensures) ∙ ap (allIn (s .s .now) _) (c .enum-told3 .given .1))
+    let s = entry (after-first (after-second (c .before .before))) .args in
+    no-dimension (s .s .now) _ _ (field-read (after-first (after-second (c .before .before)))) _ _ (curve-read (after-second (c .before .before))) (sym (c .before .before .before .read-exactly3 .ensures) ∙ ap (allIn (s .s .now) _) (c .enum-told3 .given .1))
 
 array-read-t29 : tie.Need-array-read-t29
 array-read-t29 c = search needs
@@ -101,8 +111,8 @@ array-read-t47 c = search needs
 returns-4 : tie.Need-returns-4
 returns-4 c =
     let t = c .before in
-    let s = t .before .before .before .before .before .before .before .before .before .before .before .before .before .before .before .before .before .before .before .before .before .args in
-    whole-header (s .s .now) _ _ (field-read (t .before .before .before .before .before .before .before .before .before .before .before .before .before .before)) _ _ (curve-read (t .before .before .before .before .before .before .before)) _ _
+    let s = entry (after-first (after-second (t .before .before))) .args in
+    whole-header (s .s .now) _ _ (field-read (after-first (after-second (t .before .before)))) _ _ (curve-read (after-second (t .before .before))) _ _
     (sym (t .before .before .before .read-exactly3 .ensures) ∙ ap (allIn (s .s .now) (t .before .before .before .read-exactly3 .last .1 .1 .1 .0)) (t .third .given .1))
 
 pub read-header-spec : {M : Type 1} → statement M

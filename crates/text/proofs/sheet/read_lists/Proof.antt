@@ -10,6 +10,16 @@ use borrow.Author.Needs.{needs}
 use Rattle.text.proofs.sheet.read_lists.Statement.{statement}
 use Rattle.text.proofs.sheet.read_lists.Tie as tie
 
+-- the moments of the run, each seen from a later one
+abbrev entry : tie.After-first → tie.Start
+entry c = c .before .before .before .before .before .before .before .before .before .before
+
+abbrev after-read-line : tie.After-enum-told → tie.After-read-line
+after-read-line c = c .before .before .before .before
+
+abbrev after-first : tie.After-slice-known4 → tie.After-first
+after-first c = c .before .before .before .before .before .before
+
 slice-aggregate-read-line : tie.Need-slice-aggregate-read-line
 slice-aggregate-read-line c = search needs
 
@@ -26,21 +36,21 @@ same-length : tie.Need-same-length
 same-length c = search needs
 
 -- what was read so far
-places-read : (c : tie.After-first) → let s = c .before .before .before .before .before .before .before .before .before .before .args in
+places-read : (c : tie.After-first) → let s = entry c .args in
     line placesKey 288 (drop (s .start) (s .s .now)) ≡ got (take (c .first .given .0 .0) (c .before .before .before .before .read-line .last .1 .1 .1 .0)) (drop (c .first .given .0 .1 .0) (s .s .now))
 places-read c =
-    rw (c .before .before .before .before .before .before .before .before .before .before .pre .0) at (sym (c .before .before .before .before .read-line .ensures .reads) ∙ ap (listIn (c .before .before .before .before .before .before .before .before .before .before .args .s .now) (c .before .before .before .before .read-line .last .1 .1 .1 .0)) (c .first .given .1))
+    rw (entry c .pre .0) at (sym (c .before .before .before .before .read-line .ensures .reads) ∙ ap (listIn (entry c .args .s .now) (c .before .before .before .before .read-line .last .1 .1 .1 .0)) (c .first .given .1))
 
-message-read : (c : tie.After-second) → let s = c .before .before .before .before .before .before .before .before .before .before .before .before .before .before .before .before .before .before .args in
-    line messageKey 288 (drop (c .before .before .before .before .before .before .before .before .first .given .0 .1 .0) (s .s .now)) ≡ got (take (c .second .given .0 .0) (c .before .before .before .before .read-line2 .last .1 .1 .1 .0)) (drop (c .second .given .0 .1 .0) (s .s .now))
+message-read : (c : tie.After-second) → let s = entry (after-first (c .before .before)) .args in
+    line messageKey 288 (drop (after-first (c .before .before) .first .given .0 .1 .0) (s .s .now)) ≡ got (take (c .second .given .0 .0) (c .before .before .before .before .read-line2 .last .1 .1 .1 .0)) (drop (c .second .given .0 .1 .0) (s .s .now))
 message-read c =
-    rw (c .before .before .before .before .before .before .before .before .before .before .before .before .before .before .before .before .before .before .pre .1) at (sym (c .before .before .before .before .read-line2 .ensures .reads) ∙ ap (listIn (c .before .before .before .before .before .before .before .before .before .before .before .before .before .before .before .before .before .before .args .s .now) (c .before .before .before .before .read-line2 .last .1 .1 .1 .0)) (c .second .given .1))
+    rw (entry (after-first (c .before .before)) .pre .1) at (sym (c .before .before .before .before .read-line2 .ensures .reads) ∙ ap (listIn (entry (after-first (c .before .before)) .args .s .now) (c .before .before .before .before .read-line2 .last .1 .1 .1 .0)) (c .second .given .1))
 
 returns : tie.Need-returns
 returns c =
-    let s = c .before .before .before .before .before .before .before .before .before .before .args in
+    let s = after-read-line c .before .before .before .before .before .before .args in
     none _ _ (no-places (drop (s .start) (s .s .now)) (s .head)
-    (rw (c .before .before .before .before .before .before .before .before .before .before .pre .0) at (sym (c .before .before .before .before .read-line .ensures .reads) ∙ ap (listIn (s .s .now) (c .before .before .before .before .read-line .last .1 .1 .1 .0)) (c .enum-told .given .1))))
+    (rw (after-read-line c .before .before .before .before .before .before .pre .0) at (sym (c .before .before .before .before .read-line .ensures .reads) ∙ ap (listIn (s .s .now) (c .before .before .before .before .read-line .last .1 .1 .1 .0)) (c .enum-told .given .1))))
 
 slice-aggregate-read-line-2 : tie.Need-slice-aggregate-read-line-2
 slice-aggregate-read-line-2 c = search needs
@@ -62,9 +72,9 @@ same-length-3 c = search needs
 
 returns-2 : tie.Need-returns-2
 returns-2 c =
-    let s = c .before .before .before .before .before .before .before .before .before .before .before .before .before .before .before .before .before .before .args in
-    none _ _ (no-message (drop (s .start) (s .s .now)) (s .head) _ _ (places-read (c .before .before .before .before .before .before .before .before))
-    (rw (c .before .before .before .before .before .before .before .before .before .before .before .before .before .before .before .before .before .before .pre .1) at (sym (c .before .before .before .before .read-line2 .ensures .reads) ∙ ap (listIn (s .s .now) (c .before .before .before .before .read-line2 .last .1 .1 .1 .0)) (c .enum-told2 .given .1))))
+    let s = entry (after-first (c .before .before)) .args in
+    none _ _ (no-message (drop (s .start) (s .s .now)) (s .head) _ _ (places-read (after-first (c .before .before)))
+    (rw (entry (after-first (c .before .before)) .pre .1) at (sym (c .before .before .before .before .read-line2 .ensures .reads) ∙ ap (listIn (s .s .now) (c .before .before .before .before .read-line2 .last .1 .1 .1 .0)) (c .enum-told2 .given .1))))
 
 same-length-4 : tie.Need-same-length-4
 same-length-4 c = search needs
@@ -74,8 +84,8 @@ same-length-5 c = search needs
 
 returns-3 : tie.Need-returns-3
 returns-3 c =
-    let s = c .before .before .before .before .before .before .before .before .before .before .before .before .before .before .before .before .before .before .before .before .args in
-    none _ _ (more-text (drop (s .start) (s .s .now)) (s .head) _ _ (places-read (c .before .before .before .before .before .before .before .before .before .before)) _ _ (message-read (c .before .before))
+    let s = entry (after-first (c .before .before .before .before)) .args in
+    none _ _ (more-text (drop (s .start) (s .s .now)) (s .head) _ _ (places-read (after-first (c .before .before .before .before))) _ _ (message-read (c .before .before))
     (rw (length-drop (c .before .before .second .given .0 .1 .0) (s .s .now)) (λ e. omega (arith, e, c .if1 .taken))))
 
 same-length-6 : tie.Need-same-length-6
@@ -90,7 +100,7 @@ returns-4 c =
     record {
       reads = all-read (drop (s .start) (s .s .now)) (s .head) _ _ (places-read (c .before .before .before .before .before .before .before .before .before .before)) _ _ (message-read (c .before .before))
           (rw (length-drop (c .before .before .second .given .0 .1 .0) (s .s .now)) (omega (arith, c .if1 .left)));
-      places-within = rw (c .before .before .before .before .before .before .before .before .before .before .first .given .1) at (c .before .before .before .before .before .before .before .before .before .before .before .before .before .before .read-line .ensures .within);
+      places-within = rw (after-first (c .before .before .before .before) .first .given .1) at (c .before .before .before .before .before .before .before .before .before .before .before .before .before .before .read-line .ensures .within);
       symbols-within = rw (c .before .before .second .given .1) at (c .before .before .before .before .before .before .read-line2 .ensures .within);
     }
 

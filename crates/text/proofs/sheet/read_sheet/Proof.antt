@@ -7,6 +7,10 @@ use borrow.Author.Needs.{needs}
 use Rattle.text.proofs.sheet.read_sheet.Statement.{statement}
 use Rattle.text.proofs.sheet.read_sheet.Tie as tie
 
+-- the moments of the run, each seen from a later one
+abbrev after-read-header : tie.After-read-lists → tie.After-read-header
+after-read-header c = c .before .before .before .before .before .before
+
 returns : tie.Need-returns
 returns c = none _ _ (too-long (c .before .before .before .before .args .s .now) (c .if1 .taken))
 
@@ -36,8 +40,8 @@ same-length-2 c = search needs
 returns-3 : tie.Need-returns-3
 returns-3 c =
     let r = c .before .before .before .before in
-    let s = r .before .before .before .before .before .before .before .before .before .before .before .args .s .now in
-    let read = as-lists s (omega (arith, r .before .before .before .before .before .before .before .if1 .left)) _ _ (sym (r .before .before .before .before .before .before .read-header .ensures) ∙ ap (headerIn s) (r .before .before .before .before .top .given .1)) in
+    let s = after-read-header r .before .before .before .before .before .args .s .now in
+    let read = as-lists s (omega (arith, after-read-header r .before .if1 .left)) _ _ (sym (after-read-header r .read-header .ensures) ∙ ap (headerIn s) (r .before .before .before .before .top .given .1)) in
     rw read at (r .read-lists .ensures)
 
 pub read-sheet-spec : {M : Type 1} → statement M

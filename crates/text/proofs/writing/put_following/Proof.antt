@@ -16,6 +16,10 @@ Inv-loop out₀ start l at₀ i₀ out at i = Leads (following (drop i l)) out a
 abbrev μ-loop : tie.MeasureT-loop
 μ-loop out₀ start l at₀ i₀ out at i = length l - i
 
+-- the moments of the run, each seen from a later one
+abbrev at-loop : tie.After-shared-slice-known2 Inv-loop μ-loop → tie.At-loop Inv-loop μ-loop
+at-loop c = c .before .before .before .before .before .before .before
+
 -- in a turn, and at the end
 turn : (c : tie.At-loop Inv-loop μ-loop) → let s = c .before .before .before .args in c .loop .i < length (s .l .now)
     → Leads ((comma ∷ []) ++ (decimal (getD (s .l .now) (c .loop .i) 0) ++ following (drop (c .loop .i + 1) (s .l .now)))) (c .loop .out) (c .loop .at) (following (s .l .now)) (s .out .now) (s .start)
@@ -38,7 +42,7 @@ shared-slice-read-put-number c = search needs
 
 put-number-requires : tie.Need-put-number-requires Inv-loop μ-loop
 put-number-requires c κs =
-    let l = c .before .before .before .before .before .before .before in
+    let l = at-loop c in
     let s = l .before .before .before .args in
     let n = decimal (getD (s .l .now) (l .loop .i) 0) in
     let r = following (drop (l .loop .i + 1) (s .l .now)) in
@@ -52,7 +56,7 @@ loop-less c = search needs
 
 loop-again : tie.Need-loop-again Inv-loop μ-loop
 loop-again c =
-    let l = c .before .before .before .before .before .before .before .before .before .before in
+    let l = at-loop (c .before .before .before) in
     let s = l .before .before .before .args in
     let n = decimal (getD (s .l .now) (l .loop .i) 0) in
     let r = following (drop (l .loop .i + 1) (s .l .now)) in

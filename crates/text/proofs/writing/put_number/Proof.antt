@@ -9,6 +9,10 @@ use borrow.Author.Needs.{needs}
 use Rattle.text.proofs.writing.put_number.Statement.{statement}
 use Rattle.text.proofs.writing.put_number.Tie as tie
 
+-- the moments of the run, each seen from a later one
+abbrev entry : tie.After-put-two-arg2 → tie.Start
+entry c = c .before .before .before .before .before .before .before .before
+
 add-put : tie.Need-add-put
 add-put c = search needs
 
@@ -42,7 +46,7 @@ put-requires-2 c κs = omega (arith, rw (three-digits (c .before .before .before
 
 put-two-requires-2 : tie.Need-put-two-requires-2
 put-two-requires-2 c κs =
-    let r = rw (three-digits (c .before .before .before .before .before .before .before .before .args .n) (omega arith) (omega arith)) at (c .before .before .before .before .before .before .before .before .pre) in
+    let r = rw (three-digits (entry c .args .n) (omega arith) (omega arith)) at (entry c .pre) in
     (omega arith, omega (arith, r, c .before .before .before .put2 .ensures .count, c .before .before .before .put2 .ensures .size))
 
 same-length-3 : tie.Need-same-length-3
@@ -50,12 +54,12 @@ same-length-3 c = search needs
 
 returns-3 : tie.Need-returns-3
 returns-3 c =
-    let s = c .before .before .before .before .before .before .before .before .before .before .before .args in
+    let s = entry (c .before .before .before) .args in
     let n = s .n in
     let a = (48 + n / 100) ∷ [] in
     let b = (48 + n % 100 / 10) ∷ (48 + n % 100 % 10) ∷ [] in
     let e = three-digits n (omega arith) (omega arith) in
-    rw e (leads-last b [] (leads-on a b (leads-start (rw e at (c .before .before .before .before .before .before .before .before .before .before .before .pre))) (c .before .before .before .before .before .before .put2 .ensures)) refl (c .before .before .put-two2 .ensures))
+    rw e (leads-last b [] (leads-on a b (leads-start (rw e at (entry (c .before .before .before) .pre))) (c .before .before .before .before .before .before .put2 .ensures)) refl (c .before .before .put-two2 .ensures))
 
 pub put-number-spec : {M : Type 1} → statement M
 put-number-spec =

@@ -8,6 +8,10 @@ use borrow.Author.Needs.{needs}
 use Rattle.text.proofs.writing.put_numbers.Statement.{statement}
 use Rattle.text.proofs.writing.put_numbers.Tie as tie
 
+-- the moments of the run, each seen from a later one
+abbrev past-if1 : tie.After-put-following-arg2 → tie.Else1
+past-if1 c = c .before .before .before .before .before .before .before
+
 starts : (c : tie.Else1) → let s = c .before .before .before .args in
     Leads (decimal (getD (s .l .now) 0 0) ++ following (drop 1 (s .l .now))) (s .out .now) (s .start) (joined (s .l .now)) (s .out .now) (s .start)
 starts c = leads-as (joined-first (c .before .before .before .args .l .now) (omega arith)) (leads-start (c .before .before .before .pre))
@@ -34,18 +38,18 @@ part-put-following-end c = search needs
 
 put-following-requires : tie.Need-put-following-requires
 put-following-requires c κs =
-    let s = c .before .before .before .before .before .before .before .before .before .before .args in
-    rw (all-behind (s .l .now)) (leads-on (decimal (getD (s .l .now) 0 0)) (following (drop 1 (s .l .now))) (starts (c .before .before .before .before .before .before .before)) (c .before .before .before .before .put-number .ensures) .room)
+    let s = past-if1 c .before .before .before .args in
+    rw (all-behind (s .l .now)) (leads-on (decimal (getD (s .l .now) 0 0)) (following (drop 1 (s .l .now))) (starts (past-if1 c)) (c .before .before .before .before .put-number .ensures) .room)
 
 same-length : tie.Need-same-length
 same-length c = search needs
 
 returns-2 : tie.Need-returns-2
 returns-2 c =
-    let s = c .before .before .before .before .before .before .before .before .before .before .before .before .before .args in
+    let s = past-if1 (c .before .before .before) .before .before .before .args in
     let n = decimal (getD (s .l .now) 0 0) in
     let r = following (drop 1 (s .l .now)) in
-    leads-on n r (starts (c .before .before .before .before .before .before .before .before .before .before)) (c .before .before .before .before .before .before .before .put-number .ensures) .completes _ _ (rw (all-behind (s .l .now)) at (c .before .before .put-following .ensures))
+    leads-on n r (starts (past-if1 (c .before .before .before))) (c .before .before .before .before .before .before .before .put-number .ensures) .completes _ _ (rw (all-behind (s .l .now)) at (c .before .before .put-following .ensures))
 
 pub put-numbers-spec : {M : Type 1} → statement M
 put-numbers-spec =

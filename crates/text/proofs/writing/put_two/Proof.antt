@@ -8,6 +8,10 @@ use borrow.Author.Needs.{needs}
 use Rattle.text.proofs.writing.put_two.Statement.{statement}
 use Rattle.text.proofs.writing.put_two.Tie as tie
 
+-- the moments of the run, each seen from a later one
+abbrev entry : tie.After-slice-known3 → tie.Start
+entry c = c .before .before .before .before .before .before .before .before .before
+
 add-put : tie.Need-add-put
 add-put c = search needs
 
@@ -25,10 +29,10 @@ same-length c = search needs
 
 returns : tie.Need-returns
 returns c =
-    let s = c .before .before .before .before .before .before .before .before .before .args in
+    let s = entry c .args in
     let a = (48 + s .n / 10) ∷ [] in
     let b = (48 + s .n % 10) ∷ [] in
-    leads-last b [] (leads-on a b (leads-start (omega (arith, c .before .before .before .before .before .before .before .before .before .pre .1))) (c .before .before .before .before .before .before .put .ensures)) refl (c .before .before .put2 .ensures)
+    leads-last b [] (leads-on a b (leads-start (omega (arith, entry c .pre .1))) (c .before .before .before .before .before .before .put .ensures)) refl (c .before .before .put2 .ensures)
 
 pub put-two-spec : {M : Type 1} → statement M
 put-two-spec =

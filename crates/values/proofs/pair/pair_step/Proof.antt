@@ -5,6 +5,13 @@ use borrow.Author.Needs.{needs}
 use Rattle.values.proofs.pair.pair_step.Statement.{statement}
 use Rattle.values.proofs.pair.pair_step.Tie as tie
 
+-- the moments of the run, each seen from a later one
+abbrev entry : tie.After-slice-known3 → tie.Start
+entry c = c .before .before .before .before .before
+
+abbrev after-quotient : tie.After-ordered → tie.After-quotient
+after-quotient c = c .before .before .before .before .before .before .before .before .before .before
+
 shared-slice-read-alpha : tie.Need-shared-slice-read-alpha
 shared-slice-read-alpha c = search needs
 
@@ -22,7 +29,7 @@ same-length c = search needs
 
 returns : tie.Need-returns
 returns c =
-    let s = c .before .before .before .before .before .before .before .before .before .before .before in
+    let s = entry (c .before .before .before .before .before .before) in
     let fits = s .pre .1 .1 in
     let zero = c .before .before .before .before .before .if1 .taken in
     let swept = c .before .before .before .raise .ensures in
@@ -54,10 +61,10 @@ same-length-3 c = search needs
 
 returns-2 : tie.Need-returns-2
 returns-2 c =
-    let s = c .before .before .before .before .before .before .before .before .before .before .before .before .before .before .before .before .before .before in
+    let s = entry (after-quotient c .before .before .before) in
     let fits = s .pre .1 .1 in
     let swept = c .before .before .before .before .before .before .before .gain-raise .ensures in
-    (steps (s .pre .0 .field) (s .pre .1 .0) _ _ (fits .first) (fits .second) (c .before .before .before .before .before .before .before .before .before .before .before .before .if1 .left) (c .before .before .before .before .before .before .before .before .before .before .quotient .ensures) (swept .0) (swept .1) (rw (← c .before .before .grown2 .ensures, ← c .before .longer .ensures) (c .ordered .ensures)), steps-passes (fits .first) (fits .second) (c .before .before .before .before .before .before .before .before .before .before .before .before .if1 .left) (c .before .before .before .before .before .before .before .before .before .before .quotient .ensures) (swept .0) (swept .1))
+    (steps (s .pre .0 .field) (s .pre .1 .0) _ _ (fits .first) (fits .second) (after-quotient c .before .before .if1 .left) (after-quotient c .quotient .ensures) (swept .0) (swept .1) (rw (← c .before .before .grown2 .ensures, ← c .before .longer .ensures) (c .ordered .ensures)), steps-passes (fits .first) (fits .second) (after-quotient c .before .before .if1 .left) (after-quotient c .quotient .ensures) (swept .0) (swept .1))
 
 pub pair-step-spec : {M : Type 1} → statement M
 pair-step-spec =

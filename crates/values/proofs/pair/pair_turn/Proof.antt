@@ -4,6 +4,10 @@ use borrow.Author.Needs.{needs}
 use Rattle.values.proofs.pair.pair_turn.Statement.{statement}
 use Rattle.values.proofs.pair.pair_turn.Tie as tie
 
+-- the moments of the run, each seen from a later one
+abbrev after-pair-step : tie.After-swapped → tie.After-pair-step
+after-pair-step c = c .before .before .before .before .before
+
 pair-step-requires : tie.Need-pair-step-requires
 pair-step-requires c κs = search needs
 
@@ -17,7 +21,7 @@ same-length-2 : tie.Need-same-length-2
 same-length-2 c = search needs
 
 returns : tie.Need-returns
-returns c = rw (c .before .before .before .before .before .before .before .before .if1 .taken) (steps-round (c .swapped .ensures) (c .before .before .before .before .before .pair-step .ensures .0))
+returns c = rw (after-pair-step c .before .before .before .if1 .taken) (steps-round (c .swapped .ensures) (after-pair-step c .pair-step .ensures .0))
 
 pair-step-requires-2 : tie.Need-pair-step-requires-2
 pair-step-requires-2 c κs = search needs

@@ -21,9 +21,19 @@ Inv-loop m powers logs xs ys places symbols count l₀ u₀ f₀ n₀ i₀ l u f
 abbrev μ-loop : tie.MeasureT-loop
 μ-loop m powers logs xs ys places symbols count l₀ u₀ f₀ n₀ i₀ l u f n i = count - i
 
+-- the moments of the run, each seen from a later one
+abbrev start : tie.After-begin-arg2 Inv-loop μ-loop → tie.Start Inv-loop μ-loop
+start c = c .before .before .before .before .before .before .before .before .before
+
+abbrev after-begin : tie.After-first-sizes Inv-loop μ-loop → tie.After-begin Inv-loop μ-loop
+after-begin c = c .before .before .before .before .before .before .before .before .before
+
+abbrev after-chosen-place : tie.After-slice-known9 Inv-loop μ-loop → tie.After-chosen-place Inv-loop μ-loop
+after-chosen-place c = c .before .before .before .before .before .before .before .before .before .before .before
+
 begin-requires : tie.Need-begin-requires Inv-loop μ-loop
 begin-requires c κs =
-    let entry = c .before .before .before .before .before .before .before .before .before in
+    let entry = start c in
     let pre = entry .pre .1 .0 in
     (pre .1 ∙ sym (pre .0 .as-many), pre .2 ∙ sym (pre .0 .as-many))
 
@@ -36,8 +46,8 @@ first-sizes-requires c κs = search needs
 loop-holds : tie.Need-loop-holds Inv-loop μ-loop
 unfolding after
 loop-holds c =
-    let entry = c .before .before .before .before .before .before .before .before .before .before .before .before .before .before .before .before .before .before .before in
-    let begun = c .before .before .before .before .before .before .before .before .before .begin in
+    let entry = start (after-begin c .before) in
+    let begun = after-begin c .begin in
     let pre = entry .pre .1 .0 in
     let zeros = c .before .before .before .clear in
     let n = c .first-sizes .ensures in
@@ -47,17 +57,17 @@ loop-holds c =
 
 chosen-place-requires : tie.Need-chosen-place-requires Inv-loop μ-loop
 chosen-place-requires c κs =
-    let entry = c .before .before .before .before .before .before .before .before .before .before .before .before .before .before .before .before .before .before .before .before .before in
+    let entry = start (after-begin (c .before .before) .before) in
     omega (arith, entry .pre .1 .1 .0 .within .enough)
 
 message-symbol-requires : tie.Need-message-symbol-requires Inv-loop μ-loop
 message-symbol-requires c κs =
-    let entry = c .before .before .before .before .before .before .before .before .before .before .before .before .before .before .before .before .before .before .before .before .before .before in
+    let entry = start (after-begin (c .before .before .before) .before) in
     omega (arith, entry .pre .1 .1 .1, c .before .loop-test .taken)
 
 word-turn-requires : tie.Need-word-turn-requires Inv-loop μ-loop
 word-turn-requires c κs =
-    let entry = c .before .before .before .before .before .before .before .before .before .before .before .before .before .before .before .before .before .before .before .before .before .before .before .before .before .before in
+    let entry = start (after-begin (c .before .before .before .before .before .before .before) .before) in
     let runs = entry .pre .1 .1 .0 in
     let at = c .before .before .before .before .before .before .loop in
     let h = c .before .before .before .before .before .loop-test .taken in
@@ -67,15 +77,15 @@ word-turn-requires c κs =
 
 add-i : tie.Need-add-i Inv-loop μ-loop
 add-i c =
-    let entry = c .before .before .before .before .before .before .before .before .before .before .before .before .before .before .before .before .before .before .before .before .before .before .before .before .before .before .before .before .before .before .before .before .before in
-    record { fits = omega (arith, c .before .before .before .before .before .before .before .before .before .before .before .before .loop-test .taken, entry .fits .count .fits) }
+    let entry = start (after-begin (after-chosen-place c .before .before .before) .before) in
+    record { fits = omega (arith, after-chosen-place c .before .loop-test .taken, entry .fits .count .fits) }
 
 loop-less : tie.Need-loop-less Inv-loop μ-loop
 loop-less c = search needs
 
 loop-again : tie.Need-loop-again Inv-loop μ-loop
 loop-again c =
-    let entry = c .before .before .before .before .before .before .before .before .before .before .before .before .before .before .before .before .before .before .before .before .before .before .before .before .before .before .before .before .before .before .before .before .before in
+    let entry = start (after-begin (c .before .before .before .before .before .before .before .before .before .before .before .before .before .before) .before) in
     let runs = entry .pre .1 .1 .0 in
     let at = c .before .before .before .before .before .before .before .before .before .before .before .before .before .loop in
     let h = c .before .before .before .before .before .before .before .before .before .before .before .before .loop-test .taken in
@@ -99,7 +109,7 @@ same-length-3 c = search needs
 
 returns : tie.Need-returns Inv-loop μ-loop
 returns c =
-    let entry = c .before .before .before .before .before .before .before .before .before .before .before .before .before .before .before .before .before .before .before .before .before in
+    let entry = start (after-begin (c .before .before) .before) in
     let at = c .before .loop in
     let full : at .i ≡ entry .args .count = omega arith in
     rw (← full) (at .inv .4, at .inv .5)

@@ -18,6 +18,13 @@ Inv-loop m powers logs xs ys count l₀ u₀ n₀ i₀ l u n i = (length l ≡ l
 abbrev μ-loop : tie.MeasureT-loop
 μ-loop m powers logs xs ys count l₀ u₀ n₀ i₀ l u n i = count - i
 
+-- the moments of the run, each seen from a later one
+abbrev start : tie.After-first-sizes Inv-loop μ-loop → tie.Start Inv-loop μ-loop
+start c = c .before .before .before .before .before .before .before .before .before .before .before .before
+
+abbrev in-loop : tie.After-slice-known6 Inv-loop μ-loop → tie.In-loop Inv-loop μ-loop
+in-loop c = c .before .before .before .before .before .before .before
+
 begin-requires : tie.Need-begin-requires Inv-loop μ-loop
 begin-requires c κs =
     let entry = c .before .before .before .before .before .before in
@@ -30,7 +37,7 @@ first-sizes-requires c κs = search needs
 loop-holds : tie.Need-loop-holds Inv-loop μ-loop
 unfolding after
 loop-holds c =
-    let entry = c .before .before .before .before .before .before .before .before .before .before .before .before in
+    let entry = start c in
     let begun = c .before .before .before .before .before .begin in
     let pre = entry .pre .1 .0 in
     let n = c .first-sizes .ensures in
@@ -42,7 +49,7 @@ add-pair-turn c = search needs
 
 pair-turn-requires : tie.Need-pair-turn-requires Inv-loop μ-loop
 pair-turn-requires c κs =
-    let entry = c .before .before .before .before .before .before .before .before .before .before .before .before .before .before .before .before in
+    let entry = start (c .before .before .before .before) in
     let at = c .before .before .before .loop in
     let h = c .before .before .loop-test .taken in
     (entry .pre .0, (omega (arith, entry .pre .1 .1 .enough), fits (at .inv .0) (at .inv .1) (entry .pre .1 .1 .small (at .i) h) (at .inv .3)))
@@ -55,9 +62,9 @@ loop-less c = search needs
 
 loop-again : tie.Need-loop-again Inv-loop μ-loop
 loop-again c =
-    let entry = c .before .before .before .before .before .before .before .before .before .before .before .before .before .before .before .before .before .before .before .before .before in
-    let at = c .before .before .before .before .before .before .before .before .loop in
-    let h = c .before .before .before .before .before .before .before .loop-test .taken in
+    let entry = start (in-loop c .before .before) in
+    let at = in-loop c .before .loop in
+    let h = in-loop c .loop-test .taken in
     let r = c .before .before .before .before .pair-turn .ensures in
     let a = entry .args in
     let more = r .next (a .ys .now) (at .i) _ 0 (omega arith) (omega arith) (entry .pre .1 .1 .small (at .i) h) (at .inv .3) in
@@ -71,7 +78,7 @@ same-length-2 c = search needs
 
 returns : tie.Need-returns Inv-loop μ-loop
 returns c =
-    let entry = c .before .before .before .before .before .before .before .before .before .before .before .before .before .before in
+    let entry = start (c .before .before) in
     let at = c .before .loop in
     let full : at .i ≡ entry .args .count = omega arith in
     rw (← full) (at .inv .3)

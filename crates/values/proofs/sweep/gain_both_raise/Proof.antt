@@ -16,6 +16,13 @@ Inv-loop m powers logs alpha t e from xs h₀ g₀ f₀ by-t by-e i₀ h g f i =
 abbrev μ-loop : tie.MeasureT-loop
 μ-loop m powers logs alpha t e from xs h₀ g₀ f₀ by-t by-e i₀ h g f i = length xs - i
 
+-- the moments of the run, each seen from a later one
+abbrev entry : tie.At-loop Inv-loop μ-loop → tie.Start Inv-loop μ-loop
+entry c = c .before .before .before .before .before .before .before
+
+abbrev at-loop : tie.After-slice-known6 Inv-loop μ-loop → tie.At-loop Inv-loop μ-loop
+at-loop c = c .before .before .before .before .before .before .before .before
+
 logarithm-requires : tie.Need-logarithm-requires Inv-loop μ-loop
 logarithm-requires c κs = search needs
 
@@ -29,10 +36,10 @@ slice-read-c : tie.Need-slice-read-c Inv-loop μ-loop
 slice-read-c c = search needs
 
 product-by-log-requires : tie.Need-product-by-log-requires Inv-loop μ-loop
-product-by-log-requires c κs = let s = c .before .before .before .before .before .before .before .before .before in (s .pre .0, logged (s .pre .0 .field) (s .fits .t .fits) (c .before .before .before .before .logarithm .ensures))
+product-by-log-requires c κs = let s = entry (c .before .before) in (s .pre .0, logged (s .pre .0 .field) (s .fits .t .fits) (c .before .before .before .before .logarithm .ensures))
 
 product-by-log-requires-2 : tie.Need-product-by-log-requires-2 Inv-loop μ-loop
-product-by-log-requires-2 c κs = let s = c .before .before .before .before .before .before .before .before .before .before in (s .pre .0, logged (s .pre .0 .field) (s .fits .e .fits) (c .before .before .before .before .logarithm2 .ensures))
+product-by-log-requires-2 c κs = let s = entry (c .before .before .before) in (s .pre .0, logged (s .pre .0 .field) (s .fits .e .fits) (c .before .before .before .before .logarithm2 .ensures))
 
 shared-slice-read-product : tie.Need-shared-slice-read-product Inv-loop μ-loop
 shared-slice-read-product c = search needs
@@ -62,11 +69,11 @@ loop-less : tie.Need-loop-less Inv-loop μ-loop
 loop-less c = search needs
 
 loop-again : tie.Need-loop-again Inv-loop μ-loop
-loop-again c = let at = c .before .before .before .before .before .before .before .before in
-    let s = c .before .before .before .before .before .before .before .before .before .before .before .before .before .before .before in
+loop-again c = let at = at-loop c in
+    let s = entry (at-loop c) in
     let old = at .loop .inv .0 .rest (at .loop .i) (omega arith) in
-    let gain = by-logged (s .pre .0 .field) (s .fits .t .fits) (c .before .before .before .before .before .before .before .before .before .before .logarithm .ensures) _ (c .before .before .before .before .before .product-by-log .ensures) in
-    let correction = by-logged (s .pre .0 .field) (s .fits .e .fits) (c .before .before .before .before .before .before .before .before .before .logarithm2 .ensures) _ (c .before .before .before .before .product-by-log2 .ensures) in (
+    let gain = by-logged (s .pre .0 .field) (s .fits .t .fits) (at-loop c .before .before .logarithm .ensures) _ (c .before .before .before .before .before .product-by-log .ensures) in
+    let correction = by-logged (s .pre .0 .field) (s .fits .e .fits) (at-loop c .before .logarithm2 .ensures) _ (c .before .before .before .before .product-by-log2 .ensures) in (
       sweeping-turn _ _ _ (at .loop .i) (omega (arith, s .pre .1 .0)) (at .loop .inv .0) (raised-by (s .args .m) (at .loop .inv .0) (s .args .xs .now) (s .args .alpha) (c .before .before .product .ensures)),
       sweeping-turn _ _ _ (at .loop .i) (omega (arith, s .pre .1 .1)) (at .loop .inv .1) (gained-by (s .args .m) (s .args .t) (s .args .h .now) (at .loop .inv .1) old gain),
       sweeping-turn _ _ _ (at .loop .i) (omega (arith, s .pre .1 .2)) (at .loop .inv .2) (gained-by (s .args .m) (s .args .e) (s .args .h .now) (at .loop .inv .2) old correction),
@@ -82,7 +89,7 @@ same-length-3 : tie.Need-same-length-3 Inv-loop μ-loop
 same-length-3 c = search needs
 
 returns : tie.Need-returns Inv-loop μ-loop
-returns c = let s = c .before .before .before .before .before .before .before .before in
+returns c = let s = entry (c .before) in
     let at = c .before .loop .inv in
     (sweeping-all _ _ _ (omega (arith, s .pre .1 .0)) (at .0), sweeping-all _ _ _ (omega (arith, s .pre .1 .1)) (at .1), sweeping-all _ _ _ (omega (arith, s .pre .1 .2)) (at .2))
 

@@ -4,6 +4,13 @@ use borrow.Author.Needs.{needs}
 use Rattle.values.proofs.word.word_turn.Statement.{statement}
 use Rattle.values.proofs.word.word_turn.Tie as tie
 
+-- the moments of the run, each seen from a later one
+abbrev after-word-step2 : tie.After-slice-known9 → tie.After-word-step2
+after-word-step2 c = c .before .before .before .before .before .before
+
+abbrev after-word-step : tie.After-swapped → tie.After-word-step
+after-word-step c = c .before .before .before .before .before .before .before
+
 word-step-requires : tie.Need-word-step-requires
 word-step-requires c κs = search needs
 
@@ -20,7 +27,7 @@ same-length-3 : tie.Need-same-length-3
 same-length-3 c = search needs
 
 returns : tie.Need-returns
-returns c = rw (c .before .before .before .before .before .before .before .before .before .before .before .if1 .taken) (words-round (c .swapped .ensures) (c .before .before .before .before .before .before .before .word-step .ensures))
+returns c = rw (after-word-step c .before .before .before .before .if1 .taken) (words-round (c .swapped .ensures) (after-word-step c .word-step .ensures))
 
 word-step-requires-2 : tie.Need-word-step-requires-2
 word-step-requires-2 c κs = search needs
@@ -35,7 +42,7 @@ same-length-6 : tie.Need-same-length-6
 same-length-6 c = search needs
 
 returns-2 : tie.Need-returns-2
-returns-2 c = rw (c .before .before .before .before .before .before .before .before .before .before .if1 .left) (c .before .before .before .before .before .before .word-step2 .ensures)
+returns-2 c = rw (after-word-step2 c .before .before .before .before .if1 .left) (after-word-step2 c .word-step2 .ensures)
 
 pub word-turn-spec : {M : Type 1} → statement M
 word-turn-spec =
