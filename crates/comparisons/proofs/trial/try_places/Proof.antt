@@ -5,6 +5,16 @@ use borrow.Author.Needs.{needs}
 use Rattle.comparisons.proofs.trial.try_places.Statement.{statement}
 use Rattle.comparisons.proofs.trial.try_places.Tie as tie
 
+-- the moments of the run, each seen from a later one
+abbrev entry : tie.After-symbols5 → tie.Start
+entry c = c .before .before .before .before .before .before .before .before
+
+abbrev after-symbols5 : tie.After-chosen3 → tie.After-symbols5
+after-symbols5 c = c .before .before .before .before .before .before .before .before
+
+abbrev after-places2 : tie.After-word → tie.After-places2
+after-places2 c = c .before .before .before .before .before .before .before .before .before .before .before .before
+
 places-requires : tie.Need-places-requires
 places-requires c κs = search needs
 
@@ -39,19 +49,19 @@ array-share-prefix-chosen : tie.Need-array-share-prefix-chosen
 array-share-prefix-chosen c = search needs
 
 slice-aggregate-try-lent : tie.Need-slice-aggregate-try-lent
-slice-aggregate-try-lent c = part _ _ (c .before .before .before .choose .kept .1 .1 .1 .0 ∙ c .before .before .before .before .before .before .before .before .before .before .before .before .before .places .ensures) (c .before .before .before .before .before .before .before .before .before .before .before .before .before .before .before .before .pre .2)
+slice-aggregate-try-lent c = part _ _ (c .before .before .before .choose .kept .1 .1 .1 .0 ∙ after-symbols5 c .before .before .before .before .before .places .ensures) (entry (after-symbols5 c) .pre .2)
 
 array-borrow-prefix-given : tie.Need-array-borrow-prefix-given
 array-borrow-prefix-given c = search needs
 
 slice-aggregate-try-lent-2 : tie.Need-slice-aggregate-try-lent-2
-slice-aggregate-try-lent-2 c = part _ _ (c .before .before .before .before .before .before .before .before .before .before .before .before .before .symbols .ensures) (c .before .before .before .before .before .before .before .before .before .before .before .before .before .before .before .before .before .pre .2)
+slice-aggregate-try-lent-2 c = part _ _ (after-symbols5 (c .before) .before .before .before .before .symbols .ensures) (entry (after-symbols5 (c .before)) .pre .2)
 
 array-borrow-prefix-marks : tie.Need-array-borrow-prefix-marks
 array-borrow-prefix-marks c = search needs
 
 slice-aggregate-try-lent-3 : tie.Need-slice-aggregate-try-lent-3
-slice-aggregate-try-lent-3 c = part _ _ (c .before .before .before .before .before .before .before .before .before .before .before .before .before .symbols2 .ensures) (c .before .before .before .before .before .before .before .before .before .before .before .before .before .before .before .before .before .before .pre .2)
+slice-aggregate-try-lent-3 c = part _ _ (after-symbols5 (c .before .before) .before .before .before .symbols2 .ensures) (entry (after-symbols5 (c .before .before)) .pre .2)
 
 equations-requires : tie.Need-equations-requires
 equations-requires c κs = search needs
@@ -63,31 +73,31 @@ array-borrow-prefix-function : tie.Need-array-borrow-prefix-function
 array-borrow-prefix-function c = search needs
 
 slice-aggregate-try-lent-5 : tie.Need-slice-aggregate-try-lent-5
-slice-aggregate-try-lent-5 c = part _ _ (c .before .before .before .before .before .before .before .before .before .before .before .before .before .before .before .symbols3 .ensures) (c .before .before .before .before .before .before .before .before .before .before .before .before .before .before .before .before .before .before .before .before .before .pre .1)
+slice-aggregate-try-lent-5 c = part _ _ (after-symbols5 (c .before .before .before .before .before) .before .before .symbols3 .ensures) (entry (after-symbols5 (c .before .before .before .before .before)) .pre .1)
 
 array-borrow-prefix-word : tie.Need-array-borrow-prefix-word
 array-borrow-prefix-word c = search needs
 
 slice-aggregate-try-lent-6 : tie.Need-slice-aggregate-try-lent-6
-slice-aggregate-try-lent-6 c = part _ _ (c .before .before .before .before .before .before .before .before .before .before .before .before .before .before .before .symbols4 .ensures) (c .before .before .before .before .before .before .before .before .before .before .before .before .before .before .before .before .before .before .before .before .before .before .pre .0)
+slice-aggregate-try-lent-6 c = part _ _ (after-places2 c .before .before .before .symbols4 .ensures) (entry (after-places2 c .before .before) .pre .0)
 
 array-borrow-prefix-out : tie.Need-array-borrow-prefix-out
 array-borrow-prefix-out c = search needs
 
 slice-aggregate-try-lent-7 : tie.Need-slice-aggregate-try-lent-7
-slice-aggregate-try-lent-7 c = part _ _ (c .before .before .before .before .before .before .before .before .before .before .before .before .before .before .before .symbols5 .ensures) (c .before .before .before .before .before .before .before .before .before .before .before .before .before .before .before .before .before .before .before .before .before .before .before .pre .1)
+slice-aggregate-try-lent-7 c = part _ _ (after-places2 (c .before) .before .before .symbols5 .ensures) (entry (after-places2 (c .before) .before .before) .pre .1)
 
 array-borrow-prefix-out-word : tie.Need-array-borrow-prefix-out-word
 array-borrow-prefix-out-word c = search needs
 
 slice-aggregate-try-lent-8 : tie.Need-slice-aggregate-try-lent-8
-slice-aggregate-try-lent-8 c = part _ _ (c .before .before .before .before .before .before .before .before .before .before .before .before .before .before .before .symbols6 .ensures) (c .before .before .before .before .before .before .before .before .before .before .before .before .before .before .before .before .before .before .before .before .before .before .before .before .pre .0)
+slice-aggregate-try-lent-8 c = part _ _ (after-places2 (c .before .before) .before .symbols6 .ensures) (entry (after-places2 (c .before .before) .before .before) .pre .0)
 
 array-borrow-prefix-picked : tie.Need-array-borrow-prefix-picked
 array-borrow-prefix-picked c = search needs
 
 slice-aggregate-try-lent-9 : tie.Need-slice-aggregate-try-lent-9
-slice-aggregate-try-lent-9 c = part _ _ (c .before .before .before .before .before .before .before .before .before .before .before .before .before .before .before .places2 .ensures) (c .before .before .before .before .before .before .before .before .before .before .before .before .before .before .before .before .before .before .before .before .before .before .before .before .before .pre .1)
+slice-aggregate-try-lent-9 c = part _ _ (after-places2 (c .before .before .before) .places2 .ensures) (entry (after-places2 (c .before .before .before) .before .before) .pre .1)
 
 try-lent-requires : tie.Need-try-lent-requires
 try-lent-requires c κs = search needs

@@ -7,6 +7,10 @@ use borrow.Author.Needs.{needs}
 use Rattle.matrix.proofs.operation.matrix.Statement.{statement}
 use Rattle.matrix.proofs.operation.matrix.Tie as tie
 
+-- the moments of the run, each seen from a later one
+abbrev after-enum-told : tie.After-slice-known4 → tie.After-enum-told
+after-enum-told c = c .before .before .before .before .before .before .before
+
 test-code-requires : tie.Need-test-code-requires
 test-code-requires c κs = search needs
 
@@ -23,7 +27,7 @@ same-length-2 : tie.Need-same-length-2
 same-length-2 c = search needs
 
 returns : tie.Need-returns
-returns c = go-on _ _ (sym (c .before .before .before .before .before .before .before .before .before .test-code .ensures) ∙ c .before .before .before .before .before .before .before .enum-told .given .1) (c .before .before .before .before .matrix-tested .ensures)
+returns c = go-on _ _ (sym (after-enum-told c .before .before .test-code .ensures) ∙ after-enum-told c .enum-told .given .1) (c .before .before .before .before .matrix-tested .ensures)
 
 returns-2 : tie.Need-returns-2
 returns-2 c = stop _ _ (c .before .test-code .ensures) (λ d. ⊎-elim (λ e. omega (arith, e)) (λ e. omega (arith, e)) (rw d at (c .match .keys2)))

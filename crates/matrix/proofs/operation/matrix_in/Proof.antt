@@ -11,17 +11,33 @@ use borrow.Author.Needs.{needs}
 use Rattle.matrix.proofs.operation.matrix_in.Statement.{statement}
 use Rattle.matrix.proofs.operation.matrix_in.Tie as tie
 
+-- the moments of the run, each seen from a later one
+abbrev entry : tie.After-slice-known12 → tie.Start
+entry c = c .before .before .before .before .before .before .before .before .before .before .before .before .before .before .before .before .before .before .before .before .before .before .before .before .before .before
+
+abbrev after-begin-rows : tie.After-zero-chosen-arg2 → tie.After-begin-rows
+after-begin-rows c = c .before .before .before .before .before .before .before .before .before .before .before .before
+
+abbrev after-zero-chosen : tie.After-rows-turn-arg5 → tie.After-zero-chosen
+after-zero-chosen c = c .before .before .before .before .before .before
+
+abbrev after-rows-turn : tie.After-write-rows-arg7 → tie.After-rows-turn
+after-rows-turn c = c .before .before .before .before .before .before .before .before .before .before .before .before .before .before .before
+
+abbrev past-if1 : tie.After-slice-known18 → tie.Else1
+past-if1 c = after-rows-turn (c .before .before .before .before .before) .before .before .before .before .before .before
+
 begin-rows-requires : tie.Need-begin-rows-requires
 begin-rows-requires c κs = search needs
 
 sub-last : tie.Need-sub-last
-sub-last c = omega (arith, accepted (c .before .before .before .before .before .before .before .before .before .before .before .before .before .before .before .before .before .before .before .before .before .before .before .before .before .before .pre .1 .0) .k-least)
+sub-last c = omega (arith, accepted (entry c .pre .1 .0) .k-least)
 
 zero-chosen-requires : tie.Need-zero-chosen-requires
 zero-chosen-requires c κs =
-    let pre = c .before .before .before .before .before .before .before .before .before .before .before .before .before .before .before .before .before .before .before .before .before .before .before .before .before .before .before .before .pre .1 in
+    let pre = entry (c .before .before) .pre .1 in
     let a = accepted (pre .0) in
-    let k = c .before .before .before .before .before .before .before .before .before .before .before .before .begin-rows .kept in
+    let k = after-begin-rows c .begin-rows .kept in
     (omega (arith, a .k-least, a .k-most, pre .2 .lows, k .1 .1 .1 .1 .1 .1 .1 .0), omega (arith, a .k-least, a .k-most, pre .2 .highs, k .1 .1 .1 .1 .1 .1 .1 .1 .0))
 
 same-length : tie.Need-same-length
@@ -41,17 +57,17 @@ same-length-5 c = search needs
 
 returns : tie.Need-returns
 returns c =
-    let pre = c .before .before .before .before .before .before .before .before .before .before .before .before .before .before .before .before .before .before .before .before .before .before .before .before .before .before .before .before .before .before .pre .1 in
-    let b = c .before .before .before .before .before .before .before .before .before .before .before .before .before .before .begin-rows .ensures in
+    let pre = entry (c .before .before .before .before) .pre .1 in
+    let b = after-begin-rows (c .before .before) .begin-rows .ensures in
     refuse _ (decides (pre .0) (pre .1) b (c .before .zero-chosen .ensures) ∙ ap not (c .if1 .taken))
 
 rows-turn-requires : tie.Need-rows-turn-requires
 rows-turn-requires c κs =
-    let s = c .before .before .before .before .before .before .before .before .before .before .before .before .before .before .before .before .before .before .before .before .before .before .before .before .before .before .before .before .before .before .before .before .before .before .before in
+    let s = entry (after-zero-chosen c .before .before .before) in
     let pre = s .pre .1 in
     let a = accepted (pre .0) in
-    let b = c .before .before .before .before .before .before .before .before .before .before .before .before .before .before .before .before .before .before .before .begin-rows .ensures in
-    let k = c .before .before .before .before .before .before .before .before .before .before .before .before .before .before .before .before .before .before .before .begin-rows .kept in
+    let b = after-begin-rows (after-zero-chosen c .before) .begin-rows .ensures in
+    let k = after-begin-rows (after-zero-chosen c .before) .begin-rows .kept in
     let size = b .firsts .size in (
       s .pre .0,
       (
@@ -63,12 +79,12 @@ rows-turn-requires c κs =
 
 write-rows-requires : tie.Need-write-rows-requires
 write-rows-requires c κs =
-    let s = c .before .before .before .before .before .before .before .before .before .before .before .before .before .before .before .before .before .before .before .before .before .before .before .before .before .before .before .before .before .before .before .before .before .before .before .before .before .before .before .before .before .before .before .before .before .before .before .before .before .before .before in
+    let s = entry (after-zero-chosen (after-rows-turn c .before) .before .before .before) in
     let pre = s .pre .1 in
     let a = accepted (pre .0) in
-    let b = c .before .before .before .before .before .before .before .before .before .before .before .before .before .before .before .before .before .before .before .before .before .before .before .before .before .before .before .before .before .before .before .before .before .before .before .begin-rows .ensures in
-    let k = c .before .before .before .before .before .before .before .before .before .before .before .before .before .before .before .before .before .before .before .before .before .before .before .before .before .before .before .before .before .before .before .before .before .before .before .begin-rows .kept in
-    let t = c .before .before .before .before .before .before .before .before .before .before .before .before .before .before .before .rows-turn .kept in
+    let b = after-begin-rows (after-zero-chosen (after-rows-turn c .before) .before) .begin-rows .ensures in
+    let k = after-begin-rows (after-zero-chosen (after-rows-turn c .before) .before) .begin-rows .kept in
+    let t = after-rows-turn c .rows-turn .kept in
     let size = b .firsts .size in (
       s .pre .0,
       (
@@ -87,19 +103,19 @@ write-rows-requires c κs =
     )
 
 same-length-6 : tie.Need-same-length-6
-same-length-6 c = c .before .before .before .before .before .before .before .before .before .before .before .before .before .before .before .before .before .before .before .before .before .before .before .before .before .before .before .before .before .before .before .before .before .before .before .before .before .before .before .before .begin-rows .kept .1 .1 .1 .1 .1 .1 .0
+same-length-6 c = after-begin-rows (past-if1 c .before .before) .begin-rows .kept .1 .1 .1 .1 .1 .1 .0
 
 same-length-7 : tie.Need-same-length-7
-same-length-7 c = c .before .before .before .before .before .before .before .before .before .before .before .before .before .before .before .before .before .before .before .before .rows-turn .kept .1 .1 .1 .1 .1 .0 ∙ c .before .before .before .before .before .before .before .before .before .before .before .before .before .before .before .before .before .before .before .before .before .before .before .before .before .before .before .before .before .before .before .before .before .before .before .before .before .before .before .before .begin-rows .kept .1 .1 .1 .1 .1 .1 .1 .0
+same-length-7 c = after-rows-turn (c .before .before .before .before .before) .rows-turn .kept .1 .1 .1 .1 .1 .0 ∙ after-begin-rows (past-if1 c .before .before) .begin-rows .kept .1 .1 .1 .1 .1 .1 .1 .0
 
 same-length-8 : tie.Need-same-length-8
-same-length-8 c = c .before .before .before .before .before .before .before .before .before .before .before .before .before .before .before .before .before .before .before .before .rows-turn .kept .1 .1 .1 .1 .1 .1 .0 ∙ c .before .before .before .before .before .before .before .before .before .before .before .before .before .before .before .before .before .before .before .before .before .before .before .before .before .before .before .before .before .before .before .before .before .before .before .before .before .before .before .before .begin-rows .kept .1 .1 .1 .1 .1 .1 .1 .1 .0
+same-length-8 c = after-rows-turn (c .before .before .before .before .before) .rows-turn .kept .1 .1 .1 .1 .1 .1 .0 ∙ after-begin-rows (past-if1 c .before .before) .begin-rows .kept .1 .1 .1 .1 .1 .1 .1 .1 .0
 
 same-length-9 : tie.Need-same-length-9
-same-length-9 c = c .before .before .before .before .before .before .before .before .before .before .before .before .before .before .before .before .before .before .before .before .rows-turn .kept .1 .1 .1 .1 .1 .1 .1 .0 ∙ c .before .before .before .before .before .before .before .before .before .before .before .before .before .before .before .before .before .before .before .before .before .before .before .before .before .before .before .before .before .before .before .before .before .before .before .before .before .before .before .before .begin-rows .kept .1 .1 .1 .1 .1 .1 .1 .1 .1 .0
+same-length-9 c = after-rows-turn (c .before .before .before .before .before) .rows-turn .kept .1 .1 .1 .1 .1 .1 .1 .0 ∙ after-begin-rows (past-if1 c .before .before) .begin-rows .kept .1 .1 .1 .1 .1 .1 .1 .1 .1 .0
 
 same-length-10 : tie.Need-same-length-10
-same-length-10 c = c .before .before .before .before .before .before .before .before .before .before .before .before .before .before .before .before .before .before .before .before .rows-turn .kept .1 .1 .1 .1 .1 .1 .1 .1 .0 ∙ c .before .before .before .before .before .before .before .before .before .before .before .before .before .before .before .before .before .before .before .before .before .before .before .before .before .before .before .before .before .before .before .before .before .before .before .before .before .before .before .before .begin-rows .kept .1 .1 .1 .1 .1 .1 .1 .1 .1 .1 .0
+same-length-10 c = after-rows-turn (c .before .before .before .before .before) .rows-turn .kept .1 .1 .1 .1 .1 .1 .1 .1 .0 ∙ after-begin-rows (past-if1 c .before .before) .begin-rows .kept .1 .1 .1 .1 .1 .1 .1 .1 .1 .1 .0
 
 same-length-11 : tie.Need-same-length-11
 same-length-11 c = search needs
@@ -109,12 +125,12 @@ same-length-12 c = search needs
 
 returns-2 : tie.Need-returns-2
 returns-2 c =
-    let s = c .before .before .before .before .before .before .before .before .before .before .before .before .before .before .before .before .before .before .before .before .before .before .before .before .before .before .before .before .before .before .before .before .before .before .before .before .before .before .before .before .before .before .before .before .before .before .before .before .before .before .before .before .before .before .before .before in
+    let s = entry (past-if1 c .before .before .before .before) in
     let pre = s .pre .1 in
-    let b = c .before .before .before .before .before .before .before .before .before .before .before .before .before .before .before .before .before .before .before .before .before .before .before .before .before .before .before .before .before .before .before .before .before .before .before .before .before .before .before .before .begin-rows .ensures in
+    let b = after-begin-rows (past-if1 c .before .before) .begin-rows .ensures in
     let w = c .before .before .before .before .write-rows .ensures in
-    let works = decides (pre .0) (pre .1) b (c .before .before .before .before .before .before .before .before .before .before .before .before .before .before .before .before .before .before .before .before .before .before .before .before .before .before .before .zero-chosen .ensures) ∙ ap not (c .before .before .before .before .before .before .before .before .before .before .before .before .before .before .before .before .before .before .before .before .before .before .before .before .before .before .if1 .left) in
-    pass _ works (accept-pair (w .0 ∙ completes (pre .0) (pre .1) b works (c .before .before .before .before .before .before .before .before .before .before .before .before .before .before .before .before .before .before .before .before .rows-turn .ensures .1)) (w .1))
+    let works = decides (pre .0) (pre .1) b (past-if1 c .before .zero-chosen .ensures) ∙ ap not (past-if1 c .if1 .left) in
+    pass _ works (accept-pair (w .0 ∙ completes (pre .0) (pre .1) b works (after-rows-turn (c .before .before .before .before .before) .rows-turn .ensures .1)) (w .1))
 
 pub matrix-in-spec : {M : Type 1} → statement M
 matrix-in-spec =

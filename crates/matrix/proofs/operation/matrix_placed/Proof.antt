@@ -11,6 +11,13 @@ use borrow.Author.Needs.{needs}
 use Rattle.matrix.proofs.operation.matrix_placed.Statement.{statement}
 use Rattle.matrix.proofs.operation.matrix_placed.Tie as tie
 
+-- the moments of the run, each seen from a later one
+abbrev entry : tie.After-enum-told → tie.Start
+entry c = c .before .before .before .before .before .before .before .before
+
+abbrev after-enum-told : tie.After-matrix-run-arg4 → tie.After-enum-told
+after-enum-told c = c .before .before .before .before .before .before
+
 test-places-requires : tie.Need-test-places-requires
 test-places-requires c κs = accepted-done _ (c .before .before .before .before .before .pre .0) .n-most
 
@@ -18,20 +25,20 @@ enum-told : tie.Need-enum-told
 enum-told c = search needs
 
 -- the tests were passed
-passed : (c : tie.After-enum-told) → let a = c .before .before .before .before .before .before .before .before .args in placesAnswer (length (a .xs .now)) (a .places .now) ≡ Done
+passed : (c : tie.After-enum-told) → let a = entry c .args in placesAnswer (length (a .xs .now)) (a .places .now) ≡ Done
 passed c = sym (c .before .before .test-places .ensures) ∙ c .enum-told .given .1
 
 powers-requires : tie.Need-powers-requires
-powers-requires c κs = accepted-done _ (c .before .before .before .before .before .before .before .before .pre .0) .field
+powers-requires c κs = accepted-done _ (entry c .pre .0) .field
 
 logarithms-requires : tie.Need-logarithms-requires
-logarithms-requires c κs = accepted-done _ (c .before .before .before .before .before .before .before .before .before .before .pre .0) .field
+logarithms-requires c κs = accepted-done _ (entry (c .before .before) .pre .0) .field
 
 matrix-run-requires : tie.Need-matrix-run-requires
 matrix-run-requires c κs =
-    let pre = c .before .before .before .before .before .before .before .before .before .before .before .before .before .before .pre in (
+    let pre = entry (after-enum-told c) .pre in (
       record { field = accepted-done _ (pre .0) .field; is-powers = c .before .before .before .before .before .powers .ensures; is-logs = c .before .before .before .logarithms .ensures },
-      (are-placed _ _ (passed (c .before .before .before .before .before .before)) (pre .0), pre .1 .0, pre .1 .1, pre .1 .2),
+      (are-placed _ _ (passed (after-enum-told c)) (pre .0), pre .1 .0, pre .1 .1, pre .1 .2),
     )
 
 same-length : tie.Need-same-length
@@ -41,7 +48,7 @@ same-length-2 : tie.Need-same-length-2
 same-length-2 c = search needs
 
 returns : tie.Need-returns
-returns c = places-go _ _ (passed (c .before .before .before .before .before .before .before .before .before .before .before)) _ (c .before .before .before .before .matrix-run .ensures)
+returns c = places-go _ _ (passed (after-enum-told (c .before .before .before .before .before))) _ (c .before .before .before .before .matrix-run .ensures)
 
 returns-2 : tie.Need-returns-2
 returns-2 c = places-stop _ _ _ (c .before .test-places .ensures) (λ d. ⊎-elim (λ e. omega (arith, e)) (λ e. omega (arith, e)) (rw d at (c .match .keys2)))

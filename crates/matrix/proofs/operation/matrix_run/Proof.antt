@@ -6,39 +6,43 @@ use borrow.Author.Needs.{needs}
 use Rattle.matrix.proofs.operation.matrix_run.Statement.{statement}
 use Rattle.matrix.proofs.operation.matrix_run.Tie as tie
 
+-- the moments of the run, each seen from a later one
+abbrev entry : tie.After-px → tie.Start
+entry c = c .before .before .before .before .before .before
+
 array-borrow-prefix-px : tie.Need-array-borrow-prefix-px
 array-borrow-prefix-px c = accepted (c .before .before .before .before .before .pre .1 .0) .n-most
 
 slice-aggregate-matrix-in : tie.Need-slice-aggregate-matrix-in
-slice-aggregate-matrix-in c = sym (length-take-le _ _ (accepted (c .before .before .before .before .before .before .pre .1 .0) .n-most))
+slice-aggregate-matrix-in c = sym (length-take-le _ _ (accepted (entry c .pre .1 .0) .n-most))
 
 array-borrow-prefix-l : tie.Need-array-borrow-prefix-l
-array-borrow-prefix-l c = accepted (c .before .before .before .before .before .before .pre .1 .0) .n-most
+array-borrow-prefix-l c = accepted (entry c .pre .1 .0) .n-most
 
 slice-aggregate-matrix-in-2 : tie.Need-slice-aggregate-matrix-in-2
-slice-aggregate-matrix-in-2 c = sym (length-take-le _ _ (accepted (c .before .before .before .before .before .before .before .pre .1 .0) .n-most))
+slice-aggregate-matrix-in-2 c = sym (length-take-le _ _ (accepted (entry (c .before) .pre .1 .0) .n-most))
 
 array-borrow-prefix-u : tie.Need-array-borrow-prefix-u
-array-borrow-prefix-u c = accepted (c .before .before .before .before .before .before .before .pre .1 .0) .n-most
+array-borrow-prefix-u c = accepted (entry (c .before) .pre .1 .0) .n-most
 
 slice-aggregate-matrix-in-3 : tie.Need-slice-aggregate-matrix-in-3
-slice-aggregate-matrix-in-3 c = sym (length-take-le _ _ (accepted (c .before .before .before .before .before .before .before .before .pre .1 .0) .n-most))
+slice-aggregate-matrix-in-3 c = sym (length-take-le _ _ (accepted (entry (c .before .before) .pre .1 .0) .n-most))
 
 array-borrow-prefix-a : tie.Need-array-borrow-prefix-a
-array-borrow-prefix-a c = accepted (c .before .before .before .before .before .before .before .before .pre .1 .0) .n-most
+array-borrow-prefix-a c = accepted (entry (c .before .before) .pre .1 .0) .n-most
 
 slice-aggregate-matrix-in-4 : tie.Need-slice-aggregate-matrix-in-4
-slice-aggregate-matrix-in-4 c = sym (length-take-le _ _ (accepted (c .before .before .before .before .before .before .before .before .before .pre .1 .0) .n-most))
+slice-aggregate-matrix-in-4 c = sym (length-take-le _ _ (accepted (entry (c .before .before .before) .pre .1 .0) .n-most))
 
 array-borrow-prefix-b : tie.Need-array-borrow-prefix-b
-array-borrow-prefix-b c = accepted (c .before .before .before .before .before .before .before .before .before .pre .1 .0) .n-most
+array-borrow-prefix-b c = accepted (entry (c .before .before .before) .pre .1 .0) .n-most
 
 slice-aggregate-matrix-in-5 : tie.Need-slice-aggregate-matrix-in-5
-slice-aggregate-matrix-in-5 c = sym (length-take-le _ _ (accepted (c .before .before .before .before .before .before .before .before .before .before .pre .1 .0) .n-most))
+slice-aggregate-matrix-in-5 c = sym (length-take-le _ _ (accepted (entry (c .before .before .before .before) .pre .1 .0) .n-most))
 
 matrix-in-requires : tie.Need-matrix-in-requires
 matrix-in-requires c κs =
-    let pre = c .before .before .before .before .before .before .before .before .before .before .before .before .pre in
+    let pre = entry (c .before .before .before .before .before .before) .pre in
     let most = accepted (pre .1 .0) .n-most in
     (pre .0, (pre .1 .0, pre .1 .1, record { points = length-take-le _ _ most; lows = length-take-le _ _ most; highs = length-take-le _ _ most; firsts = length-take-le _ _ most; seconds = length-take-le _ _ most }, pre .1 .2, pre .1 .3))
 

@@ -10,12 +10,19 @@ use borrow.Author.Needs.{needs}
 use Rattle.matrix.proofs.operation.matrix_tested.Statement.{statement}
 use Rattle.matrix.proofs.operation.matrix_tested.Tie as tie
 
+-- the moments of the run, each seen from a later one
+abbrev entry : tie.Else1 → tie.Start
+entry c = c .before .before .before .before .before .before .before
+
+abbrev past-if3 : tie.After-slice-known4 → tie.Else3
+past-if3 c = c .before .before .before .before .before .before .before
+
 returns : tie.Need-returns
 returns c = refuse _ (ne-eqb _ _ (c .if1 .taken))
 
 mul-if2 : tie.Need-mul-if2
 mul-if2 c =
-    let s = c .before .before .before .before .before .before .before .before in
+    let s = entry (c .before) in
     let a = accepted-done _ (s .pre) in
     omega (arith, rows-small {k = s .args .p .k} {n = length (s .args .xs .now)} (omega (arith, a .k-most, a .n-most)) (a .n-most))
 
@@ -35,7 +42,7 @@ same-length-2 : tie.Need-same-length-2
 same-length-2 c = search needs
 
 returns-4 : tie.Need-returns-4
-returns-4 c = pass _ (eq-eqb _ _ (c .before .before .before .before .before .before .before .before .before .before .if1 .left)) (pass _ (eq-eqb _ _ (c .before .before .before .before .before .before .before .before .if2 .left)) (pass _ (le-leb room _ (c .before .before .before .before .before .before .before .if3 .left)) (c .before .before .before .before .matrix-placed .ensures)))
+returns-4 c = pass _ (eq-eqb _ _ (past-if3 c .before .before .before .if1 .left)) (pass _ (eq-eqb _ _ (past-if3 c .before .if2 .left)) (pass _ (le-leb room _ (past-if3 c .if3 .left)) (c .before .before .before .before .matrix-placed .ensures)))
 
 pub matrix-tested-spec : {M : Type 1} → statement M
 matrix-tested-spec =

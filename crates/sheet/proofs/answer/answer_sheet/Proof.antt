@@ -5,6 +5,10 @@ use borrow.Author.Needs.{needs}
 use Rattle.sheet.proofs.answer.answer_sheet.Statement.{statement}
 use Rattle.sheet.proofs.answer.answer_sheet.Tie as tie
 
+-- the moments of the run, each seen from a later one
+abbrev past-if1 : tie.After-slice-known2 → tie.Else1
+past-if1 c = c .before .before .before .before .before .before .before .before .before .before .before .before
+
 returns : tie.Need-returns
 returns c = too-short (c .before .before .before .args .s .now) (c .before .before .before .args .out .now) (omega (arith, c .if1 .taken))
 
@@ -27,7 +31,7 @@ same-length : tie.Need-same-length
 same-length c = search needs
 
 returns-2 : tie.Need-returns-2
-returns-2 c = answered (c .before .before .before .before .before .before .before .before .before .before .before .before .before .before .before .args .s .now) (c .before .before .before .before .before .before .before .before .before .before .before .before .before .before .before .args .out .now) _ _ (omega (arith, c .before .before .before .before .before .before .before .before .before .before .before .before .if1 .left)) (c .before .before .before .before .before .before .answer-read .ensures .0) (c .before .before .before .before .before .before .answer-read .ensures .1)
+returns-2 c = answered (past-if1 c .before .before .before .args .s .now) (past-if1 c .before .before .before .args .out .now) _ _ (omega (arith, past-if1 c .if1 .left)) (c .before .before .before .before .before .before .answer-read .ensures .0) (c .before .before .before .before .before .before .answer-read .ensures .1)
 
 pub answer-sheet-spec : {M : Type 1} → statement M
 answer-sheet-spec =

@@ -12,7 +12,11 @@ use borrow.Author.Needs.{needs}
 use Rattle.sheet.proofs.job.run.Statement.{statement}
 use Rattle.sheet.proofs.job.run.Tie as tie
 
-field-ok : (c : tie.Else2) → isField (c .before .before .before .before .before .before .before .before .before .args .head .field) ≡ true
+-- the moments of the run, each seen from a later one
+abbrev entry : tie.Else2 → tie.Start
+entry c = c .before .before .before .before .before .before .before .before .before
+
+field-ok : (c : tie.Else2) → isField (entry c .args .head .field) ≡ true
 field-ok c = sym (c .before .is-field .ensures) ∙ not-false _ (c .if2 .left)
 
 returns : tie.Need-returns
@@ -35,7 +39,7 @@ is-small-requires c κs = search needs
 returns-3 : tie.Need-returns-3
 unfolding jobOutcome codeFor coefficientsBelow
 returns-3 c =
-    let h = c .before .before .before .before .before .before .before .before .before .before .before .args .head in
+    let h = entry (c .before .before) .args .head in
     passes _ (field-ok (c .before .before)) (stops _ (too-large (h .field) (curveOf h) (field-of (h .field) (field-ok (c .before .before))) (sym (c .before .is-small .ensures) ∙ not-true _ (c .if3 .taken))))
 
 parameters-requires : tie.Need-parameters-requires

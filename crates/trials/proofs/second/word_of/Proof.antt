@@ -4,6 +4,10 @@ use borrow.Author.Needs.{needs}
 use Rattle.trials.proofs.second.word_of.Statement.{statement}
 use Rattle.trials.proofs.second.word_of.Tie as tie
 
+-- the moments of the run, each seen from a later one
+abbrev entry : tie.After-marks → tie.Start
+entry c = c .before .before .before .before .before .before .before .before
+
 symbols-requires : tie.Need-symbols-requires
 symbols-requires c κs = search needs
 
@@ -14,7 +18,7 @@ array-borrow-prefix-marks : tie.Need-array-borrow-prefix-marks
 array-borrow-prefix-marks c = search needs
 
 slice-aggregate-find : tie.Need-slice-aggregate-find
-slice-aggregate-find c = part _ _ (c .before .before .symbols .ensures) (c .before .before .before .before .before .before .before .before .pre)
+slice-aggregate-find c = part _ _ (c .before .before .symbols .ensures) (entry c .pre)
 
 equations-requires : tie.Need-equations-requires
 equations-requires c κs = search needs
@@ -26,7 +30,7 @@ array-borrow-prefix-function : tie.Need-array-borrow-prefix-function
 array-borrow-prefix-function c = search needs
 
 slice-aggregate-find-3 : tie.Need-slice-aggregate-find-3
-slice-aggregate-find-3 c = part _ _ (c .before .before .before .before .symbols2 .ensures) (c .before .before .before .before .before .before .before .before .before .before .before .pre)
+slice-aggregate-find-3 c = part _ _ (c .before .before .before .before .symbols2 .ensures) (entry (c .before .before .before) .pre)
 
 find-requires : tie.Need-find-requires
 find-requires c κs = search needs
