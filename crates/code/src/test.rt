@@ -27,7 +27,7 @@ ghost use Rattle.code.specs.Slots.{slot, slotAt};
 ghost use Rattle.code.specs.Points.{isPoint, Pointed, countIn, dimensionIn, pointsAnswer};
 
 // Whether p has coordinates in the field and lies on the curve.
-fn is_point(m: u8, powers: &[u8; 255], logs: &[u8; 256], c: Curve, p: Point) -> bool
+fn is_point(m: u8, powers: &[u8; 1021], logs: &[u16; 512], c: Curve, p: Point) -> bool
     requires { ⌜ Tables m (now powers) (now logs) ⌝ }
     ensures { λ r. ⌜ r ≡ isPoint (galois m) c p ⌝ }
 {
@@ -41,7 +41,14 @@ fn is_point(m: u8, powers: &[u8; 255], logs: &[u8; 256], c: Curve, p: Point) -> 
     on_curve(m, powers, logs, c, p)
 }
 
-fn all_on_curve(m: u8, powers: &[u8; 255], logs: &[u8; 256], c: Curve, xs: &[u8], ys: &[u8]) -> bool
+fn all_on_curve(
+    m: u8,
+    powers: &[u8; 1021],
+    logs: &[u16; 512],
+    c: Curve,
+    xs: &[u8],
+    ys: &[u8],
+) -> bool
     requires { ⌜ Tables m (now powers) (now logs) ⌝ }
     requires { ⌜ length (now xs) ≡ length (now ys) ⌝ }
     ensures { λ r. ⌜ r ≡ all (isPoint (galois m) c) (pointsAt (now (xs .entry)) (now (ys .entry))) ⌝ }
@@ -57,7 +64,7 @@ fn all_on_curve(m: u8, powers: &[u8; 255], logs: &[u8; 256], c: Curve, xs: &[u8]
     true
 }
 
-fn slot(m: u8, powers: &[u8; 255], logs: &[u8; 256], c: Curve, p: Point) -> u16
+fn slot(m: u8, powers: &[u8; 1021], logs: &[u16; 512], c: Curve, p: Point) -> u16
     requires { ⌜ Tables m (now powers) (now logs) ⌝ }
     ensures { λ r. ⌜ r ≡ slot (galois m) c p ⌝ }
 {
@@ -68,8 +75,8 @@ fn slot(m: u8, powers: &[u8; 255], logs: &[u8; 256], c: Curve, p: Point) -> u16
 
 fn fill_slots(
     m: u8,
-    powers: &[u8; 255],
-    logs: &[u8; 256],
+    powers: &[u8; 1021],
+    logs: &[u16; 512],
     c: Curve,
     xs: &[u8],
     ys: &[u8],
@@ -90,8 +97,8 @@ fn fill_slots(
 // No point is listed twice, by their slots, for which an array is lent.
 fn slots_differ(
     m: u8,
-    powers: &[u8; 255],
-    logs: &[u8; 256],
+    powers: &[u8; 1021],
+    logs: &[u16; 512],
     c: Curve,
     xs: &[u8],
     ys: &[u8],
@@ -108,8 +115,8 @@ fn slots_differ(
 
 fn points_differ(
     m: u8,
-    powers: &[u8; 255],
-    logs: &[u8; 256],
+    powers: &[u8; 1021],
+    logs: &[u16; 512],
     c: Curve,
     xs: &[u8],
     ys: &[u8],
@@ -138,7 +145,13 @@ fn right_dimension(k: usize, n: usize) -> bool
 }
 
 // Numbers 3 to 7, where 1 and 2 do not apply.
-fn test_points(p: Parameters, powers: &[u8; 255], logs: &[u8; 256], xs: &[u8], ys: &[u8]) -> Answer
+fn test_points(
+    p: Parameters,
+    powers: &[u8; 1021],
+    logs: &[u16; 512],
+    xs: &[u8],
+    ys: &[u8],
+) -> Answer
     requires { ⌜ Tables (p .field) (now powers) (now logs) × (coefficientsBelow (size (p .field)) (p .curve) ≡ true) ⌝ }
     ensures { λ r. ⌜ r ≡ pointsAnswer (codeOf p (now (xs .entry)) (now (ys .entry))) ⌝ }
 {

@@ -44,8 +44,8 @@ fn write_picked(ranked: &[u16], last: MessageIndex, out: &mut [u16])
 // Pick of different places.
 fn pick_run(
     p: Parameters,
-    powers: &[u8; 255],
-    logs: &[u8; 256],
+    powers: &[u8; 1021],
+    logs: &[u16; 512],
     xs: &[u8],
     ys: &[u8],
     ranked: &[u16],

@@ -29,8 +29,8 @@ ghost use Rattle.coder.specs.Stages.{relationRun, relationPlaced, relati
 // L of the first k − 1 places is the function if it is zero at the last. Two arrays are lent for the pair.
 fn relation_run(
     p: Parameters,
-    powers: &[u8; 255],
-    logs: &[u8; 256],
+    powers: &[u8; 1021],
+    logs: &[u16; 512],
     xs: &[u8],
     ys: &[u8],
     places: &[u16],

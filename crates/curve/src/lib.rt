@@ -30,7 +30,7 @@ use field::size;
 const ROOM: usize = 288;
 
 // The sum of the Y of a point over x and of its opposite.
-fn trace(m: u8, powers: &[u8; 255], logs: &[u8; 256], c: Curve, x: u8) -> u8
+fn trace(m: u8, powers: &[u8; 1021], logs: &[u16; 512], c: Curve, x: u8) -> u8
     requires { ⌜ Tables m (now powers) (now logs) ⌝ }
     ensures { λ r. ⌜ r ≡ product m (c .g1) x ⊕ c .g3 ⌝ }
 {
@@ -38,7 +38,7 @@ fn trace(m: u8, powers: &[u8; 255], logs: &[u8; 256], c: Curve, x: u8) -> u8
 }
 
 // The right side of the curve's equation, by Horner's rule.
-fn right(m: u8, powers: &[u8; 255], logs: &[u8; 256], c: Curve, x: u8) -> u8
+fn right(m: u8, powers: &[u8; 1021], logs: &[u16; 512], c: Curve, x: u8) -> u8
     requires { ⌜ Tables m (now powers) (now logs) ⌝ }
     ensures { λ r. ⌜ r ≡ right (galois m) c x ⌝ }
 {
@@ -47,7 +47,7 @@ fn right(m: u8, powers: &[u8; 255], logs: &[u8; 256], c: Curve, x: u8) -> u8
 }
 
 // Whether y solves Y² + t·Y = v, by one product.
-fn solves(m: u8, powers: &[u8; 255], logs: &[u8; 256], t: u8, v: u8, y: u8) -> bool
+fn solves(m: u8, powers: &[u8; 1021], logs: &[u16; 512], t: u8, v: u8, y: u8) -> bool
     requires { ⌜ Tables m (now powers) (now logs) ⌝ }
     ensures { λ r. ⌜ r ≡ eqb (product m y (y ⊕ t)) v ⌝ }
 {
@@ -55,7 +55,7 @@ fn solves(m: u8, powers: &[u8; 255], logs: &[u8; 256], t: u8, v: u8, y: u8) -> b
 }
 
 // Whether p lies on the curve.
-pub fn on_curve(m: u8, powers: &[u8; 255], logs: &[u8; 256], c: Curve, p: Point) -> bool
+pub fn on_curve(m: u8, powers: &[u8; 1021], logs: &[u16; 512], c: Curve, p: Point) -> bool
     requires { ⌜ Tables m (now powers) (now logs) ⌝ }
     ensures { λ r. ⌜ r ≡ onCurve (galois m) c p ⌝ }
 {
@@ -65,7 +65,7 @@ pub fn on_curve(m: u8, powers: &[u8; 255], logs: &[u8; 256], c: Curve, p: Point)
 }
 
 // The other point over the same x, or p itself.
-pub fn opposite(m: u8, powers: &[u8; 255], logs: &[u8; 256], c: Curve, p: Point) -> Point
+pub fn opposite(m: u8, powers: &[u8; 1021], logs: &[u16; 512], c: Curve, p: Point) -> Point
     requires { ⌜ Tables m (now powers) (now logs) ⌝ }
     ensures { λ r. ⌜ r ≡ opposite (galois m) c p ⌝ }
 {
@@ -98,7 +98,7 @@ pub fn coefficients_below(m: u8, c: Curve) -> bool
 }
 
 // The only point at which a curve can be singular, where g1 is not 0.
-fn candidate(m: u8, powers: &[u8; 255], logs: &[u8; 256], c: Curve) -> Point
+fn candidate(m: u8, powers: &[u8; 1021], logs: &[u16; 512], c: Curve) -> Point
     requires { ⌜ Tables m (now powers) (now logs) ⌝ }
     ensures { λ r. ⌜ r ≡ candidate (galois m) c ⌝ }
 {
@@ -109,7 +109,7 @@ fn candidate(m: u8, powers: &[u8; 255], logs: &[u8; 256], c: Curve) -> Point
 }
 
 // Whether the curve is singular, by one point: no search over the field.
-pub fn is_singular(m: u8, powers: &[u8; 255], logs: &[u8; 256], c: Curve) -> bool
+pub fn is_singular(m: u8, powers: &[u8; 1021], logs: &[u16; 512], c: Curve) -> bool
     requires { ⌜ Tables m (now powers) (now logs) × (coefficientsBelow (size m) c ≡ true) ⌝ }
     ensures { λ r. ⌜ r ≡ singular (galois m) c ⌝ }
 {
@@ -135,8 +135,8 @@ fn append(xs: &mut [u8], ys: &mut [u8], count: usize, p: Point) -> usize
 // Appends the points over x, by Y, with one product for each Y.
 fn append_column(
     m: u8,
-    powers: &[u8; 255],
-    logs: &[u8; 256],
+    powers: &[u8; 1021],
+    logs: &[u16; 512],
     c: Curve,
     x: u8,
     xs: &mut [u8],
@@ -164,8 +164,8 @@ fn append_column(
 // Lists all points, by X, then Y.
 fn fill_points(
     m: u8,
-    powers: &[u8; 255],
-    logs: &[u8; 256],
+    powers: &[u8; 1021],
+    logs: &[u16; 512],
     c: Curve,
     xs: &mut [u8],
     ys: &mut [u8],

@@ -89,7 +89,15 @@ fn mark(added: Added) -> u8 {
 }
 
 // The equation that a function takes a symbol at (x, y).
-fn pose(m: u8, powers: &[u8; 255], logs: &[u8; 256], x: u8, y: u8, symbol: u8, equation: &mut [u8])
+fn pose(
+    m: u8,
+    powers: &[u8; 1021],
+    logs: &[u16; 512],
+    x: u8,
+    y: u8,
+    symbol: u8,
+    equation: &mut [u8],
+)
     requires { ⌜ Tables m (now powers) (now logs) ⌝ }
     requires { ⌜ 1 ≤ length (now equation) ⌝ }
 {
@@ -101,8 +109,8 @@ fn pose(m: u8, powers: &[u8; 255], logs: &[u8; 256], x: u8, y: u8, symbol: u8, e
 // Adds that equation.
 fn add_point(
     m: u8,
-    powers: &[u8; 255],
-    logs: &[u8; 256],
+    powers: &[u8; 1021],
+    logs: &[u16; 512],
     p: Point,
     symbol: u8,
     rows: &mut [u8],
@@ -118,8 +126,8 @@ fn add_point(
 // Adds the equations of all places in their order, and marks what each added. The memory for one equation is lent.
 fn add_all(
     m: u8,
-    powers: &[u8; 255],
-    logs: &[u8; 256],
+    powers: &[u8; 1021],
+    logs: &[u16; 512],
     xs: &[u8],
     ys: &[u8],
     places: &[u16],
@@ -231,8 +239,8 @@ pub fn solution(m: u8, rows: &[u8], right: bool, function: &mut [u8]) -> bool {
 // The value of a function at (x, y).
 fn value(
     m: u8,
-    powers: &[u8; 255],
-    logs: &[u8; 256],
+    powers: &[u8; 1021],
+    logs: &[u16; 512],
     x: u8,
     y: u8,
     function: &[u8],
@@ -248,8 +256,8 @@ fn value(
 // The values of a function at all points. The memory for the monomials is lent.
 fn fill_word(
     m: u8,
-    powers: &[u8; 255],
-    logs: &[u8; 256],
+    powers: &[u8; 1021],
+    logs: &[u16; 512],
     xs: &[u8],
     ys: &[u8],
     function: &[u8],

@@ -39,7 +39,7 @@ pub fn clear(rows: &mut [u8], k: usize)
 }
 
 // The equation loses coefficient c, by the row that leads with it.
-fn reduce(m: u8, powers: &[u8; 255], logs: &[u8; 256], rows: &[u8], c: usize, equation: &mut [u8])
+fn reduce(m: u8, powers: &[u8; 1021], logs: &[u16; 512], rows: &[u8], c: usize, equation: &mut [u8])
     requires { ⌜ Tables m (now powers) (now logs) ⌝ }
     requires { ⌜ Room (now rows) × (c < 288) × (c < length (now equation)) × (length (now equation) ≤ 289) ⌝ }
 {
@@ -50,7 +50,7 @@ fn reduce(m: u8, powers: &[u8; 255], logs: &[u8; 256], rows: &[u8], c: usize, eq
 }
 
 // The equation becomes row c.
-fn store(m: u8, powers: &[u8; 255], logs: &[u8; 256], rows: &mut [u8], c: usize, equation: &[u8])
+fn store(m: u8, powers: &[u8; 1021], logs: &[u16; 512], rows: &mut [u8], c: usize, equation: &[u8])
     requires { ⌜ Tables m (now powers) (now logs) ⌝ }
     requires { ⌜ Room (now rows) × (c < 288) × (c < length (now equation)) × (length (now equation) ≤ 289) ⌝ }
 {
@@ -63,8 +63,8 @@ fn store(m: u8, powers: &[u8; 255], logs: &[u8; 256], rows: &mut [u8], c: usize,
 // Whether the equation leads with coefficient c and no other did: then it becomes row c. Else it loses the coefficient.
 fn takes_row(
     m: u8,
-    powers: &[u8; 255],
-    logs: &[u8; 256],
+    powers: &[u8; 1021],
+    logs: &[u16; 512],
     rows: &mut [u8],
     c: usize,
     equation: &mut [u8],
@@ -86,8 +86,8 @@ fn takes_row(
 // Adds an equation, in its row where it is new; it is used up by this.
 pub fn add_equation(
     m: u8,
-    powers: &[u8; 255],
-    logs: &[u8; 256],
+    powers: &[u8; 1021],
+    logs: &[u16; 512],
     rows: &mut [u8],
     equation: &mut [u8],
 ) -> Added
@@ -112,8 +112,8 @@ pub fn add_equation(
 // With `right` false every symbol is taken for 0.
 fn coefficient(
     m: u8,
-    powers: &[u8; 255],
-    logs: &[u8; 256],
+    powers: &[u8; 1021],
+    logs: &[u16; 512],
     rows: &[u8],
     right: bool,
     c: usize,
@@ -134,8 +134,8 @@ fn coefficient(
 // The coefficients from the last to the first: the one solution if there is one and no more.
 pub fn solve(
     m: u8,
-    powers: &[u8; 255],
-    logs: &[u8; 256],
+    powers: &[u8; 1021],
+    logs: &[u16; 512],
     rows: &[u8],
     right: bool,
     function: &mut [u8],

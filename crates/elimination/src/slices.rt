@@ -6,7 +6,14 @@ ghost use lib.ListN.{length};
 ghost use Rattle.field.specs.Tables.{Tables};
 
 // The row `to` gains t times the row `from`.
-pub fn add_multiple(m: u8, powers: &[u8; 255], logs: &[u8; 256], t: u8, from: &[u8], to: &mut [u8])
+pub fn add_multiple(
+    m: u8,
+    powers: &[u8; 1021],
+    logs: &[u16; 512],
+    t: u8,
+    from: &[u8],
+    to: &mut [u8],
+)
     requires { ⌜ Tables m (now powers) (now logs) ⌝ }
     requires { ⌜ length (now from) ≡ length (now to) ⌝ }
 {
@@ -19,7 +26,7 @@ pub fn add_multiple(m: u8, powers: &[u8; 255], logs: &[u8; 256], t: u8, from: &[
 }
 
 // The row `to` becomes t times the row `from`.
-pub fn scale(m: u8, powers: &[u8; 255], logs: &[u8; 256], t: u8, from: &[u8], to: &mut [u8])
+pub fn scale(m: u8, powers: &[u8; 1021], logs: &[u16; 512], t: u8, from: &[u8], to: &mut [u8])
     requires { ⌜ Tables m (now powers) (now logs) ⌝ }
     requires { ⌜ length (now from) ≡ length (now to) ⌝ }
 {
@@ -32,7 +39,7 @@ pub fn scale(m: u8, powers: &[u8; 255], logs: &[u8; 256], t: u8, from: &[u8], to
 }
 
 // The sum of the products of two rows.
-pub fn inner_product(m: u8, powers: &[u8; 255], logs: &[u8; 256], a: &[u8], b: &[u8]) -> u8
+pub fn inner_product(m: u8, powers: &[u8; 1021], logs: &[u16; 512], a: &[u8], b: &[u8]) -> u8
     requires { ⌜ Tables m (now powers) (now logs) ⌝ }
     requires { ⌜ length (now a) ≡ length (now b) ⌝ }
 {
@@ -46,7 +53,7 @@ pub fn inner_product(m: u8, powers: &[u8; 255], logs: &[u8; 256], a: &[u8], b: &
 }
 
 // The monomial at index j of 1, X, Y, X^2, XY, .. at (x, y): from index 3 on it is X times the one two before.
-fn monomial(m: u8, powers: &[u8; 255], logs: &[u8; 256], x: u8, y: u8, row: &[u8], j: usize) -> u8
+fn monomial(m: u8, powers: &[u8; 1021], logs: &[u16; 512], x: u8, y: u8, row: &[u8], j: usize) -> u8
     requires { ⌜ Tables m (now powers) (now logs) ⌝ }
     requires { ⌜ j < length (now row) ⌝ }
 {
@@ -59,7 +66,7 @@ fn monomial(m: u8, powers: &[u8; 255], logs: &[u8; 256], x: u8, y: u8, row: &[u8
 }
 
 // The row of all monomials at (x, y).
-pub fn monomials(m: u8, powers: &[u8; 255], logs: &[u8; 256], x: u8, y: u8, row: &mut [u8])
+pub fn monomials(m: u8, powers: &[u8; 1021], logs: &[u16; 512], x: u8, y: u8, row: &mut [u8])
     requires { ⌜ Tables m (now powers) (now logs) ⌝ }
 {
     let mut j = 0;

@@ -58,7 +58,7 @@ pub fn extend(f: &mut [u8], n: usize, m: usize)
 }
 
 // The first n coefficients of f become (X + α) times as much; how many there are then.
-fn raise(m: u8, powers: &[u8; 255], logs: &[u8; 256], alpha: u8, f: &mut [u8], n: usize) -> usize
+fn raise(m: u8, powers: &[u8; 1021], logs: &[u16; 512], alpha: u8, f: &mut [u8], n: usize) -> usize
     requires { ⌜ Tables m (now powers) (now logs) ⌝ }
     requires { ⌜ (0 < n) × (n + 2 ≤ length (now f)) ⌝ }
     ensures { λ r. ⌜ Holds (now (f .exit)) r (raised (galois m) alpha (take n (now (f .entry)))) ⌝ }
@@ -72,8 +72,8 @@ fn raise(m: u8, powers: &[u8; 255], logs: &[u8; 256], alpha: u8, f: &mut [u8], n
 // The first n coefficients of f gain t·h; how many there are then.
 fn gain(
     m: u8,
-    powers: &[u8; 255],
-    logs: &[u8; 256],
+    powers: &[u8; 1021],
+    logs: &[u16; 512],
     t: u8,
     h: &[u8],
     f: &mut [u8],
@@ -97,8 +97,8 @@ fn gain(
 // The value of g at p is `at`.
 fn correct(
     m: u8,
-    powers: &[u8; 255],
-    logs: &[u8; 256],
+    powers: &[u8; 1021],
+    logs: &[u16; 512],
     p: Point,
     v: u8,
     at: u8,
@@ -118,8 +118,8 @@ fn correct(
 // The same where the value of g is not known yet.
 pub fn complete(
     m: u8,
-    powers: &[u8; 255],
-    logs: &[u8; 256],
+    powers: &[u8; 1021],
+    logs: &[u16; 512],
     p: Point,
     v: u8,
     g: &[u8],
@@ -166,8 +166,8 @@ pub fn swapped(n: Sizes) -> Sizes
 // One more place p, where the value of L is `at`, which is not zero. L is in l and U in u.
 fn advance(
     m: u8,
-    powers: &[u8; 255],
-    logs: &[u8; 256],
+    powers: &[u8; 1021],
+    logs: &[u16; 512],
     p: Point,
     at: u8,
     l: &mut [u8],
@@ -191,8 +191,8 @@ fn advance(
 // One more place p, with L in l and U in u.
 fn pair_step(
     m: u8,
-    powers: &[u8; 255],
-    logs: &[u8; 256],
+    powers: &[u8; 1021],
+    logs: &[u16; 512],
     p: Point,
     l: &mut [u8],
     u: &mut [u8],
@@ -219,8 +219,8 @@ fn pair_step(
 // The same, with L and U in either array.
 pub fn pair_turn(
     m: u8,
-    powers: &[u8; 255],
-    logs: &[u8; 256],
+    powers: &[u8; 1021],
+    logs: &[u16; 512],
     p: Point,
     l: &mut [u8],
     u: &mut [u8],
@@ -240,8 +240,8 @@ pub fn pair_turn(
 // One more place p, where F, in f, is to be v, with L in l and U in u.
 fn step(
     m: u8,
-    powers: &[u8; 255],
-    logs: &[u8; 256],
+    powers: &[u8; 1021],
+    logs: &[u16; 512],
     p: Point,
     v: u8,
     l: &mut [u8],
@@ -277,8 +277,8 @@ fn step(
 // The same, with L and U in either array.
 pub fn turn(
     m: u8,
-    powers: &[u8; 255],
-    logs: &[u8; 256],
+    powers: &[u8; 1021],
+    logs: &[u16; 512],
     p: Point,
     v: u8,
     l: &mut [u8],

@@ -11,7 +11,7 @@ ghost use Rattle.elliptic.specs.Curve.{point};
 ghost use Rattle.elliptic.specs.Pair.{evaluate, addScaled, timesLinear};
 
 // The value of f at (x, y).
-pub fn value(m: u8, powers: &[u8; 255], logs: &[u8; 256], x: u8, y: u8, f: &[u8]) -> u8
+pub fn value(m: u8, powers: &[u8; 1021], logs: &[u16; 512], x: u8, y: u8, f: &[u8]) -> u8
     requires { ⌜ Tables m (now powers) (now logs) ⌝ }
     ensures { λ v. ⌜ v ≡ evaluate (galois m) (now (f .entry)) (point x y) ⌝ }
 {
@@ -32,7 +32,7 @@ pub fn value(m: u8, powers: &[u8; 255], logs: &[u8; 256], x: u8, y: u8, f: &[u8]
 }
 
 // f gains t·h.
-pub fn add_scaled(m: u8, powers: &[u8; 255], logs: &[u8; 256], t: u8, h: &[u8], f: &mut [u8])
+pub fn add_scaled(m: u8, powers: &[u8; 1021], logs: &[u16; 512], t: u8, h: &[u8], f: &mut [u8])
     requires { ⌜ Tables m (now powers) (now logs) ⌝ }
     requires { ⌜ length (now h) ≤ length (now f) ⌝ }
     ensures { λ _. ⌜ now (f .exit) ≡ addScaled (galois m) t (now (h .entry)) (now (f .entry)) ⌝ }
@@ -46,7 +46,7 @@ pub fn add_scaled(m: u8, powers: &[u8; 255], logs: &[u8; 256], t: u8, h: &[u8], 
 }
 
 // f becomes (X + α)·f, up to its length. a and b are the coefficients that X moves to i and i + 1.
-pub fn times_linear(m: u8, powers: &[u8; 255], logs: &[u8; 256], alpha: u8, f: &mut [u8])
+pub fn times_linear(m: u8, powers: &[u8; 1021], logs: &[u16; 512], alpha: u8, f: &mut [u8])
     requires { ⌜ Tables m (now powers) (now logs) ⌝ }
     requires { ⌜ 0 < length (now f) ⌝ }
     ensures { λ _. ⌜ now (f .exit) ≡ timesLinear (galois m) alpha (now (f .entry)) ⌝ }

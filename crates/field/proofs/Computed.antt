@@ -3,9 +3,10 @@ use mathlib.Core.Path.{_≡_, refl, sym, ap, _∙_, subst}
 use mathlib.Core.Bool.{Bool, true, false, _&&_}
 use mathlib.Core.Logic.{⊎-elim}
 use mathlib.Core.List.{List, [], _∷_}
-use Prim.Native.Nat.{ℕ, zero, suc, _+_, _-_, _<_}
+use Prim.Native.Nat.{ℕ, zero, suc, _+_, _-_, _/_, _%_, _<_}
 use native.Mathlib.Nat.{not-suc-le-zero, le-of-suc-le-suc, add-zero, add-suc, suc-add, eq-or-lt-of-le}
 use native.Mathlib.Omega.{arith}
+use native.Mathlib.Decide.{ℕ-discrete}
 use lib.Dec.{T}
 use lib.ListN.{length, getD}
 use Rattle.basics.specs.Lists.{same}
@@ -45,6 +46,11 @@ iterate-at f s next i (suc n) zero h = ap s (sym (add-zero i))
 iterate-at f s next i (suc n) (suc k) h =
     ap (λ x. getD (iterate f x n) k 0) (sym (next i)) ∙ iterate-at f s next (suc i) n k (le-of-suc-le-suc h)
     ∙ ap s (suc-add i k ∙ sym (add-suc i k))
+
+pub length-iterate : (f : ℕ → ℕ) (x n : ℕ) → length (iterate f x n) ≡ n
+unfolding iterate
+length-iterate f x zero = refl
+length-iterate f x (suc n) = ap suc (length-iterate f (f x) n)
 
 pub tabulate-at : (f : ℕ → ℕ) (i n k : ℕ) → k < n → getD (tabulate f i n) k 0 ≡ f (i + k)
 unfolding tabulate
@@ -87,3 +93,11 @@ at-number f x d (suc (suc (suc (suc (suc (suc (suc (suc (suc m))))))))) h = absu
 -- a table in the code that holds these, read at i
 pub by-number : {A : Type 0} (f : ℕ → A) (x d : A) {i m : ℕ} → i ≡ m → IsField m → getD (byNumber f x) i d ≡ f m
 by-number f x d {m = m} e h = ap (λ n. getD (byNumber f x) n d) e ∙ at-number f x d m h
+
+-- the tables of two field numbers side by side, read at the lowest bit of the number
+pub by-half : {A : Type 0} (f : ℕ → A) (d : A) (k : ℕ) {i m : ℕ} → i ≡ m % 2 → m / 2 ≡ k → getD (f (k + k) ∷ f (k + k + 1) ∷ []) i d ≡ f m
+by-half f d k {i} {m} e h = ap (λ n. getD (f (k + k) ∷ f (k + k + 1) ∷ []) n d) e ∙ go (ℕ-discrete (m % 2) 0)
+  where
+    go : Dec (m % 2 ≡ 0) → getD (f (k + k) ∷ f (k + k + 1) ∷ []) (m % 2) d ≡ f m
+    go (yes z) = let s : k + k ≡ m = omega arith in rw z (ap f s)
+    go (no n) = let one : m % 2 ≡ 1 = omega arith in let s : k + k + 1 ≡ m = omega arith in rw one (ap f s)

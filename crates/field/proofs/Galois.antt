@@ -31,7 +31,7 @@ field-true {m} (least, most) = both-true (leb 2 m) (leb m 8) (le-leb 2 m least) 
 rowTest : ℕ → Bool
 rowTest m =
     leb 2 (width m) && (leb (width m) 8 && (eqb (modulus m / size m) 1
-    && (eqb (size m) (size m / 2 + size m / 2) && (ltb (size m + size m) 259 || eqb (size m) 256))))
+    && (eqb (size m) (size m / 2 + size m / 2) && (ltb (size m + size m) 258 || eqb (size m) 256))))
 
 row-passes : {m : ℕ} → IsField m → T (rowTest m)
 unfolding rowTest allBelow modulus width size rows
@@ -66,7 +66,7 @@ pub record RowFacts (m : ℕ) : Type 0 where
   pub narrow : width m ≤ 8
   pub degree : modulus m / size m ≡ 1
   pub even : size m ≡ size m / 2 + size m / 2
-  pub wraps : T (ltb (size m + size m) 259 || eqb (size m) 256)
+  pub wraps : T (ltb (size m + size m) 258 || eqb (size m) 256)
 
 pub row-facts : {m : ℕ} → IsField m → RowFacts m
 unfolding rowTest

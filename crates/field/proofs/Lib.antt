@@ -9,3 +9,4 @@ mod Generator
 pub mod Computed
 pub mod Galois
 pub mod Lookup
+mod Pastes

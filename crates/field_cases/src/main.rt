@@ -7,7 +7,7 @@ use io::print_decimal;
 use libc::STDOUT_FILENO;
 
 // After how many factors 2 the power is 1 again: at most 255.
-fn order_of_two(m: u8, powers: &[u8; 255], logs: &[u8; 256]) -> u64
+fn order_of_two(m: u8, powers: &[u8; 1021], logs: &[u16; 512]) -> u64
     requires { ⌜ Tables m (now powers) (now logs) ⌝ }
 {
     let mut a: u8 = 2;
@@ -26,7 +26,7 @@ fn counted(n: u64, test: bool) -> u64 {
 }
 
 // How many elements have an inverse that multiplies to 1.
-fn inverses(m: u8, powers: &[u8; 255], logs: &[u8; 256]) -> u64
+fn inverses(m: u8, powers: &[u8; 1021], logs: &[u16; 512]) -> u64
     requires { ⌜ Tables m (now powers) (now logs) ⌝ }
 {
     let mut n: u64 = 0;
@@ -44,7 +44,7 @@ fn mixed(sum: u64, symbol: u8) -> u64 {
 }
 
 // The checksum with a row of the product table more.
-fn row_sum(m: u8, powers: &[u8; 255], logs: &[u8; 256], a: u8, start: u64) -> u64
+fn row_sum(m: u8, powers: &[u8; 1021], logs: &[u16; 512], a: u8, start: u64) -> u64
     requires { ⌜ Tables m (now powers) (now logs) ⌝ }
 {
     let mut sum = start;
@@ -55,7 +55,7 @@ fn row_sum(m: u8, powers: &[u8; 255], logs: &[u8; 256], a: u8, start: u64) -> u6
 }
 
 // The checksum of the product table.
-fn table_sum(m: u8, powers: &[u8; 255], logs: &[u8; 256]) -> u64
+fn table_sum(m: u8, powers: &[u8; 1021], logs: &[u16; 512]) -> u64
     requires { ⌜ Tables m (now powers) (now logs) ⌝ }
 {
     let mut sum: u64 = 0;
@@ -70,7 +70,7 @@ fn show(text: &[u8], n: u64) {
     print_decimal(STDOUT_FILENO, n);
 }
 
-fn products(m: u8, powers: &[u8; 255], logs: &[u8; 256])
+fn products(m: u8, powers: &[u8; 1021], logs: &[u16; 512])
     requires { ⌜ Tables m (now powers) (now logs) ⌝ }
 {
     show(b", 2*2 ", field::product(m, powers, logs, 2, 2) as u64);
@@ -78,7 +78,7 @@ fn products(m: u8, powers: &[u8; 255], logs: &[u8; 256])
     show(b", 1/2 ", field::quotient(m, powers, logs, 1, 2) as u64);
 }
 
-fn tables(m: u8, powers: &[u8; 255], logs: &[u8; 256])
+fn tables(m: u8, powers: &[u8; 1021], logs: &[u16; 512])
     requires { ⌜ Tables m (now powers) (now logs) ⌝ }
 {
     show(b", order of 2 ", order_of_two(m, powers, logs));

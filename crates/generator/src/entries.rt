@@ -12,15 +12,15 @@ ghost use Prim.Native.Nat.{_+_, _-_, _<_, _≤_};
 ghost use lib.ListN.{length, getD, set};
 ghost use Rattle.basics.specs.Lists.{table};
 ghost use Rattle.field.specs.Galois.{IsField};
-ghost use Rattle.field.specs.Tables.{Tables, logTable};
+ghost use Rattle.field.specs.Tables.{Tables, logTables};
 ghost use Rattle.generator.specs.Arranged.{rank};
 ghost use Rattle.generator.specs.Rows.{RowLists, Factor, total, quotientAt, entryAt, symbolAt};
 
 // The sum of the rows at a point where L and U are v and w, but for the row over its coordinate.
 fn column_sum(
     m: u8,
-    powers: &[u8; 255],
-    logs: &[u8; 256],
+    powers: &[u8; 1021],
+    logs: &[u16; 512],
     alpha: u8,
     v: u8,
     w: u8,
@@ -44,8 +44,8 @@ fn column_sum(
 }
 
 // The logarithm of a factor, which a row looks up once.
-fn factor(m: u8, logs: &[u8; 256], a: u8) -> u8
-    requires { ⌜ IsField m × (now logs ≡ logTable m) ⌝ }
+fn factor(m: u8, logs: &[u16; 512], a: u8) -> u16
+    requires { ⌜ IsField m × (now logs ≡ logTables m) ⌝ }
     ensures { λ r. ⌜ Factor m a r ⌝ }
 {
     logarithm(m, logs, a)
@@ -54,11 +54,11 @@ fn factor(m: u8, logs: &[u8; 256], a: u8) -> u8
 // The entry of a row, whose factors have the logarithms la and lb, at the point with index s.
 fn entry(
     m: u8,
-    powers: &[u8; 255],
-    logs: &[u8; 256],
+    powers: &[u8; 1021],
+    logs: &[u16; 512],
     row: MessageIndex,
-    la: u8,
-    lb: u8,
+    la: u16,
+    lb: u16,
     s: usize,
     count: usize,
     xs: &[u8],
@@ -87,8 +87,8 @@ fn entry(
 // The symbols of the row of a message index, with its own place. The points that are not chosen stand behind the first count, in their order.
 pub fn fill_row(
     m: u8,
-    powers: &[u8; 255],
-    logs: &[u8; 256],
+    powers: &[u8; 1021],
+    logs: &[u16; 512],
     index: MessageIndex,
     place: Place,
     count: usize,

@@ -20,8 +20,8 @@ ghost use Rattle.generator.specs.Rows.{total, multipleAt, Over, RowLists
 // The multiples of the raised function that the first rows have at a point, each in place of its factor, and their sum.
 fn take_multiples(
     m: u8,
-    powers: &[u8; 255],
-    logs: &[u8; 256],
+    powers: &[u8; 1021],
+    logs: &[u16; 512],
     alpha: u8,
     t: u8,
     count: usize,
@@ -66,8 +66,8 @@ fn find_over(xs: &[u8], count: usize, alpha: u8) -> usize
 // The rows so far with one more point, and its own row, where the function that is raised is rc and the other t·rc.
 fn raise_rows(
     m: u8,
-    powers: &[u8; 255],
-    logs: &[u8; 256],
+    powers: &[u8; 1021],
+    logs: &[u16; 512],
     index: MessageIndex,
     rc: u8,
     t: u8,
@@ -92,8 +92,8 @@ fn raise_rows(
 // The rows so far with one more point, and its own row, before L, in l, and U, in u, change.
 fn raise_either(
     m: u8,
-    powers: &[u8; 255],
-    logs: &[u8; 256],
+    powers: &[u8; 1021],
+    logs: &[u16; 512],
     index: MessageIndex,
     xs: &[u8],
     l: &[u8],
@@ -119,8 +119,8 @@ fn raise_either(
 // The rows so far with one more point: L is in l and U in u.
 fn rows_step(
     m: u8,
-    powers: &[u8; 255],
-    logs: &[u8; 256],
+    powers: &[u8; 1021],
+    logs: &[u16; 512],
     index: MessageIndex,
     xs: &[u8],
     l: &mut [u8],
@@ -143,8 +143,8 @@ fn rows_step(
 // The same, with L and U in either array.
 pub fn rows_turn(
     m: u8,
-    powers: &[u8; 255],
-    logs: &[u8; 256],
+    powers: &[u8; 1021],
+    logs: &[u16; 512],
     index: MessageIndex,
     xs: &[u8],
     l: &mut [u8],

@@ -15,8 +15,8 @@ ghost use Rattle.generator.specs.Rows.{RowLists, Able, Rows, pairAfter};
 // u holds the second coordinates, which are the values of U = Y.
 pub fn run_rows(
     m: u8,
-    powers: &[u8; 255],
-    logs: &[u8; 256],
+    powers: &[u8; 1021],
+    logs: &[u16; 512],
     xs: &[u8],
     count: usize,
     l: &mut [u8],

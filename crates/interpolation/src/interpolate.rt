@@ -37,8 +37,8 @@ fn begin(l: &mut [u8], u: &mut [u8])
 // The pair of the first places.
 pub fn run_pair(
     m: u8,
-    powers: &[u8; 255],
-    logs: &[u8; 256],
+    powers: &[u8; 1021],
+    logs: &[u16; 512],
     xs: &[u8],
     ys: &[u8],
     places: &[u16],
@@ -66,8 +66,8 @@ pub fn run_pair(
 // The pair and the interpolant of the first places, where it takes the symbols.
 pub fn run(
     m: u8,
-    powers: &[u8; 255],
-    logs: &[u8; 256],
+    powers: &[u8; 1021],
+    logs: &[u16; 512],
     xs: &[u8],
     ys: &[u8],
     places: &[u16],
@@ -102,8 +102,8 @@ pub fn run(
 // The value of L at p.
 pub fn low_at(
     m: u8,
-    powers: &[u8; 255],
-    logs: &[u8; 256],
+    powers: &[u8; 1021],
+    logs: &[u16; 512],
     p: Point,
     l: &[u8],
     u: &[u8],
@@ -124,8 +124,8 @@ pub fn low_at(
 // F gains the multiple of L that makes its value at p v; how many coefficients it has then.
 pub fn finish(
     m: u8,
-    powers: &[u8; 255],
-    logs: &[u8; 256],
+    powers: &[u8; 1021],
+    logs: &[u16; 512],
     p: Point,
     v: u8,
     l: &[u8],

@@ -45,8 +45,8 @@ pub fn write_low(l: &[u8], u: &[u8], n: Sizes, out: &mut [u8])
 // The values of f at the points with coordinates xs and ys.
 pub fn write_word(
     m: u8,
-    powers: &[u8; 255],
-    logs: &[u8; 256],
+    powers: &[u8; 1021],
+    logs: &[u16; 512],
     xs: &[u8],
     ys: &[u8],
     f: &[u8],
@@ -66,8 +66,8 @@ pub fn write_word(
 // The value of f at every place is the symbol at the same index.
 pub fn agrees(
     m: u8,
-    powers: &[u8; 255],
-    logs: &[u8; 256],
+    powers: &[u8; 1021],
+    logs: &[u16; 512],
     xs: &[u8],
     ys: &[u8],
     places: &[u16],

@@ -28,8 +28,8 @@ ghost use Rattle.coder.specs.Stages.{matrixRun, matrixPlaced, matrixTested};
 // Matrix of k different places. The arrays are lent. The working space is used where nothing is refused any more.
 fn matrix_in(
     p: Parameters,
-    powers: &[u8; 255],
-    logs: &[u8; 256],
+    powers: &[u8; 1021],
+    logs: &[u16; 512],
     xs: &[u8],
     ys: &[u8],
     places: &[u16],
@@ -61,8 +61,8 @@ fn matrix_in(
 // The same with arrays of its own: 1,440 bytes.
 fn matrix_run(
     p: Parameters,
-    powers: &[u8; 255],
-    logs: &[u8; 256],
+    powers: &[u8; 1021],
+    logs: &[u16; 512],
     xs: &[u8],
     ys: &[u8],
     places: &[u16],

@@ -22,8 +22,8 @@ ghost use Rattle.matrix.specs.Given.{Sized, Begun, Written, frees, rowAt
 // The points with the chosen ones first, and the rows of all of these but the last. Until then a marks the points that are not chosen.
 pub fn begin_rows(
     p: Parameters,
-    powers: &[u8; 255],
-    logs: &[u8; 256],
+    powers: &[u8; 1021],
+    logs: &[u16; 512],
     xs: &[u8],
     ys: &[u8],
     places: &[u16],
@@ -47,8 +47,8 @@ pub fn begin_rows(
 // The symbols of all rows. `free` marks the points that are not chosen.
 fn fill_rows(
     m: u8,
-    powers: &[u8; 255],
-    logs: &[u8; 256],
+    powers: &[u8; 1021],
+    logs: &[u16; 512],
     k: usize,
     places: &[u16],
     free: &[u8],
@@ -79,8 +79,8 @@ fn fill_rows(
 // The same with the marks in the working space, which is cleared behind it.
 pub fn write_rows(
     m: u8,
-    powers: &[u8; 255],
-    logs: &[u8; 256],
+    powers: &[u8; 1021],
+    logs: &[u16; 512],
     k: usize,
     places: &[u16],
     px: &[u8],

@@ -21,8 +21,8 @@ ghost use Rattle.solving.specs.Given.{Placed};
 // L of all points but the last is zero there. Two arrays are lent for the pair.
 fn zero_at_last(
     m: u8,
-    powers: &[u8; 255],
-    logs: &[u8; 256],
+    powers: &[u8; 1021],
+    logs: &[u16; 512],
     xs: &[u8],
     ys: &[u8],
     l: &mut [u8],
@@ -41,8 +41,8 @@ fn zero_at_last(
 // L of the first k − 1 places is zero at the k-th. Arrays are lent for the coordinates and for the pair.
 fn last_zero_in(
     p: Parameters,
-    powers: &[u8; 255],
-    logs: &[u8; 256],
+    powers: &[u8; 1021],
+    logs: &[u16; 512],
     xs: &[u8],
     ys: &[u8],
     places: &[u16],
@@ -64,8 +64,8 @@ fn last_zero_in(
 // The same with arrays of its own.
 pub fn last_zero(
     p: Parameters,
-    powers: &[u8; 255],
-    logs: &[u8; 256],
+    powers: &[u8; 1021],
+    logs: &[u16; 512],
     xs: &[u8],
     ys: &[u8],
     places: &[u16],

@@ -26,8 +26,8 @@ ghost use Rattle.solving.specs.Given.{Posed, Solving, HoldsFunction};
 // F, in f, gains the multiple of L that makes its value at the place v, and becomes k coefficients.
 fn finish_at(
     m: u8,
-    powers: &[u8; 255],
-    logs: &[u8; 256],
+    powers: &[u8; 1021],
+    logs: &[u16; 512],
     xs: &[u8],
     ys: &[u8],
     place: Place,
@@ -51,8 +51,8 @@ fn finish_at(
 // The function, to the first k of f. There is none where there are k places that are dependent. Two arrays are lent for the pair.
 fn solve_in(
     p: Parameters,
-    powers: &[u8; 255],
-    logs: &[u8; 256],
+    powers: &[u8; 1021],
+    logs: &[u16; 512],
     xs: &[u8],
     ys: &[u8],
     places: &[u16],
@@ -85,8 +85,8 @@ fn solve_in(
 // The same with arrays of its own.
 pub fn solve(
     p: Parameters,
-    powers: &[u8; 255],
-    logs: &[u8; 256],
+    powers: &[u8; 1021],
+    logs: &[u16; 512],
     xs: &[u8],
     ys: &[u8],
     places: &[u16],

@@ -22,7 +22,15 @@ ghost use Rattle.codewords.specs.Code.{codeOf};
 ghost use Rattle.solving.specs.Given.{Posed, Solving, solvedWord, missing};
 
 // F, in f, gains the multiple of L, in l, that makes it v at the place.
-fn correct(m: u8, powers: &[u8; 255], logs: &[u8; 256], place: Place, v: u8, l: &[u8], f: &mut [u8])
+fn correct(
+    m: u8,
+    powers: &[u8; 1021],
+    logs: &[u16; 512],
+    place: Place,
+    v: u8,
+    l: &[u8],
+    f: &mut [u8],
+)
     requires { ⌜ Tables m (now powers) (now logs) ⌝ }
     requires { ⌜ (1 ≤ place .0) × (place .0 - 1 < length (now l)) × (length (now l) ≡ length (now f)) ⌝ }
     ensures { λ _. ⌜ now (f .exit) ≡ addScaled (galois m) (missing m (place .0) v (now (l .entry)) (now (f .entry))) (now (l .entry)) (now (f .entry)) ⌝ }
@@ -35,8 +43,8 @@ fn correct(m: u8, powers: &[u8; 255], logs: &[u8; 256], place: Place, v: u8, l: 
 // The same, with L in either array.
 fn correct_at(
     m: u8,
-    powers: &[u8; 255],
-    logs: &[u8; 256],
+    powers: &[u8; 1021],
+    logs: &[u16; 512],
     place: Place,
     v: u8,
     l: &[u8],
@@ -60,8 +68,8 @@ fn correct_at(
 // The values, to f. There are none where there are k places that are dependent. Two arrays are lent for the pair.
 fn solve_word_in(
     p: Parameters,
-    powers: &[u8; 255],
-    logs: &[u8; 256],
+    powers: &[u8; 1021],
+    logs: &[u16; 512],
     xs: &[u8],
     ys: &[u8],
     places: &[u16],
@@ -94,8 +102,8 @@ fn solve_word_in(
 // The same with arrays of its own.
 pub fn solve_word(
     p: Parameters,
-    powers: &[u8; 255],
-    logs: &[u8; 256],
+    powers: &[u8; 1021],
+    logs: &[u16; 512],
     xs: &[u8],
     ys: &[u8],
     places: &[u16],

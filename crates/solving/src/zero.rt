@@ -19,8 +19,8 @@ ghost use Rattle.engine.specs.Places.{pointOf, IsPlace};
 // L, by its coefficients, is zero at the place.
 pub fn zero_at(
     m: u8,
-    powers: &[u8; 255],
-    logs: &[u8; 256],
+    powers: &[u8; 1021],
+    logs: &[u16; 512],
     xs: &[u8],
     ys: &[u8],
     place: Place,

@@ -24,8 +24,8 @@ pub fn longer(a: usize, b: usize) -> usize
 // One more place, with index j: L is in l and U in u. What stands before the index `from` is needed no more.
 pub fn pair_step(
     m: u8,
-    powers: &[u8; 255],
-    logs: &[u8; 256],
+    powers: &[u8; 1021],
+    logs: &[u16; 512],
     j: usize,
     from: usize,
     xs: &[u8],
@@ -56,8 +56,8 @@ pub fn pair_step(
 // The same, with L and U in either array.
 pub fn pair_turn(
     m: u8,
-    powers: &[u8; 255],
-    logs: &[u8; 256],
+    powers: &[u8; 1021],
+    logs: &[u16; 512],
     j: usize,
     from: usize,
     xs: &[u8],

@@ -34,8 +34,8 @@ pub fn begin(ys: &[u8], l: &mut [u8], u: &mut [u8])
 // The pair of the first points of a list, by its values at the later ones.
 pub fn run_pair(
     m: u8,
-    powers: &[u8; 255],
-    logs: &[u8; 256],
+    powers: &[u8; 1021],
+    logs: &[u16; 512],
     xs: &[u8],
     ys: &[u8],
     count: usize,
@@ -61,8 +61,8 @@ pub fn run_pair(
 // The pair and the interpolant of the first places, where it takes the symbols, by their values at all points.
 pub fn run(
     m: u8,
-    powers: &[u8; 255],
-    logs: &[u8; 256],
+    powers: &[u8; 1021],
+    logs: &[u16; 512],
     xs: &[u8],
     ys: &[u8],
     places: &[u16],

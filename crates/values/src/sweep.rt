@@ -10,8 +10,8 @@ ghost use Rattle.values.specs.Values.{Swept, raisedAt, gainedAt};
 // h becomes (X + α)·h.
 pub fn raise(
     m: u8,
-    powers: &[u8; 255],
-    logs: &[u8; 256],
+    powers: &[u8; 1021],
+    logs: &[u16; 512],
     alpha: u8,
     from: usize,
     xs: &[u8],
@@ -31,8 +31,8 @@ pub fn raise(
 // g gains t·h, and h becomes (X + α)·h.
 pub fn gain_raise(
     m: u8,
-    powers: &[u8; 255],
-    logs: &[u8; 256],
+    powers: &[u8; 1021],
+    logs: &[u16; 512],
     alpha: u8,
     t: u8,
     from: usize,
@@ -59,8 +59,8 @@ pub fn gain_raise(
 // g gains t·h, f gains e·h, and h becomes (X + α)·h.
 pub fn gain_both_raise(
     m: u8,
-    powers: &[u8; 255],
-    logs: &[u8; 256],
+    powers: &[u8; 1021],
+    logs: &[u16; 512],
     alpha: u8,
     t: u8,
     e: u8,

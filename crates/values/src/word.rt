@@ -19,8 +19,8 @@ ghost use Rattle.values.specs.Values.{WordSteps, Fits};
 // One more place, where F is to be v: L is in l and U in u.
 pub fn word_step(
     m: u8,
-    powers: &[u8; 255],
-    logs: &[u8; 256],
+    powers: &[u8; 1021],
+    logs: &[u16; 512],
     place: Place,
     v: u8,
     xs: &[u8],
@@ -55,8 +55,8 @@ pub fn word_step(
 // The same, with L and U in either array.
 pub fn word_turn(
     m: u8,
-    powers: &[u8; 255],
-    logs: &[u8; 256],
+    powers: &[u8; 1021],
+    logs: &[u16; 512],
     place: Place,
     v: u8,
     xs: &[u8],
