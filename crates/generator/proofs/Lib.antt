@@ -1,5 +1,4 @@
 -- Laws of the rows.
-pub mod Arranged
 pub mod Sums
 pub mod Turns
 pub mod Adding

@@ -12,7 +12,7 @@ use lib.Seq.{getD-set-same, getD-set-other}
 use Rattle.field.specs.Sum.{_⊕_}
 use Rattle.field.specs.Galois.{product, inverse}
 use Rattle.values.specs.Values.{Sweeping}
-use Rattle.generator.specs.Arranged.{rank}
+use Rattle.arrangement.specs.Arranged.{rank}
 use Rattle.generator.specs.Rows.{total, multipleAt, quotientAt, entryAt, symbolAt, Over, RowLists, RowsRaised}
 
 -- a sum gains a term

@@ -1,3 +1,2 @@
 -- What the arrays of the rows hold.
-pub mod Arranged
 pub mod Rows

@@ -14,7 +14,7 @@ use Rattle.field.specs.Tables.{IsLog, productByLog}
 use Rattle.elliptic.specs.Pair.{State, after}
 use Rattle.engine.specs.Places.{valueAt}
 use Rattle.values.specs.Values.{pointsIn}
-use Rattle.generator.specs.Arranged.{rank}
+use Rattle.arrangement.specs.Arranged.{rank}
 
 -- the sum of g 0, .., g (i − 1)
 abbrev pub total : (ℕ → ℕ) → ℕ → ℕ

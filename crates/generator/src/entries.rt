@@ -13,7 +13,7 @@ ghost use lib.ListN.{length, getD, set};
 ghost use Rattle.basics.specs.Lists.{table};
 ghost use Rattle.field.specs.Galois.{IsField};
 ghost use Rattle.field.specs.Tables.{Tables, logTables};
-ghost use Rattle.generator.specs.Arranged.{rank};
+ghost use Rattle.arrangement.specs.Arranged.{rank};
 ghost use Rattle.generator.specs.Rows.{RowLists, Factor, total, quotientAt, entryAt, symbolAt};
 
 // The sum of the rows at a point where L and U are v and w, but for the row over its coordinate.

@@ -1,5 +1,4 @@
 // The rows of the generator matrix that is systematic at chosen places, all at once: a place costs a few products a row.
-pub mod arrange;
 pub mod entries;
 pub mod factors;
 pub mod run;

@@ -1,5 +1,5 @@
 // The rows of all points but the last, after which it is known whether they are dependent.
-use crate::arrange::fill_ones;
+use arrangement::arrange::fill_ones;
 use crate::factors::rows_turn;
 use basics::MessageIndex;
 use engine::pair::Sizes;

@@ -7,8 +7,8 @@ use lib.ListN.{length, getD, take, drop, take-append-drop, length-set}
 use lib.Seq.{length-take-le, take-append-seam}
 use Rattle.basics.specs.Lists.{table}
 use Rattle.basics.proofs.Lists.{length-table, getD-table}
-use Rattle.generator.specs.Arranged.{freeAt, rank}
-use Rattle.generator.proofs.Arranged.{rank-as, rank-all}
+use Rattle.arrangement.specs.Arranged.{freeAt, rank}
+use Rattle.arrangement.proofs.Arranged.{rank-as, rank-all}
 use Rattle.generator.specs.Rows.{entryAt, symbolAt}
 use Rattle.matrix.specs.Given.{Written, frees, rowAt}
 

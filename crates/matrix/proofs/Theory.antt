@@ -46,8 +46,8 @@ use Rattle.solving.proofs.Link.{accepted, place-at, all-in, index-in, on-curve,
 use Rattle.solving.proofs.Interpolant.{shown-word}
 use Rattle.coder.specs.Outcomes.{joined}
 use Rattle.coder.proofs.Results.{the-row}
-use Rattle.generator.specs.Arranged.{freeAt, rank, Places, Apart, Arranged}
-use Rattle.generator.proofs.Arranged.{free-two, free-zero, free-one, rank-as, rank-all, rank-inside, rank-onto}
+use Rattle.arrangement.specs.Arranged.{freeAt, rank, Places, Apart, Arranged}
+use Rattle.arrangement.proofs.Arranged.{free-two, free-zero, free-one, rank-as, rank-all, rank-inside, rank-onto}
 use Rattle.generator.specs.Rows.{Able, Rows, RowsStep, raisedOf, unitSymbols, pairAfter, rowValue, entryAt, symbolAt}
 use Rattle.generator.proofs.Adding.{entry-is}
 use Rattle.generator.proofs.Words.{rows-next}

@@ -7,7 +7,7 @@ use Rattle.basics.specs.Lists.{table}
 use Rattle.codewords.specs.Code.{Code}
 use Rattle.engine.specs.declared.pair.Sizes.{Sizes}
 use Rattle.values.specs.Values.{ShownIn}
-use Rattle.generator.specs.Arranged.{freeAt, Places, Apart, Arranged}
+use Rattle.arrangement.specs.Arranged.{freeAt, Places, Apart, Arranged}
 use Rattle.generator.specs.Rows.{RowLists, Rows, pairAfter, entryAt, symbolAt}
 
 -- each as long as there are points

@@ -7,9 +7,9 @@ use native.Mathlib.Omega.{arith}
 use lib.ListN.{length, getD, set, length-set}
 use Rattle.basics.specs.Lists.{table}
 use Rattle.basics.proofs.Loops.{filled, filled-turn, filled-all}
-use Rattle.generator.specs.Arranged.{rank}
+use Rattle.arrangement.specs.Arranged.{rank}
 use Rattle.generator.specs.Rows.{entryAt, symbolAt}
-use Rattle.generator.proofs.Arranged.{rank-next}
+use Rattle.arrangement.proofs.Arranged.{rank-next}
 use Rattle.generator.proofs.Turns.{symbol-none, symbol-some}
 use borrow.Author.Needs.{needs}
 use Rattle.generator.proofs.entries.fill_row.Statement.{statement}

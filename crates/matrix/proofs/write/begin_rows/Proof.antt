@@ -4,7 +4,7 @@ use native.Mathlib.Omega.{arith}
 use lib.ListN.{length}
 use Rattle.basics.specs.Lists.{table}
 use Rattle.solving.proofs.Link.{accepted}
-use Rattle.generator.specs.Arranged.{freeAt}
+use Rattle.arrangement.specs.Arranged.{freeAt}
 use Rattle.matrix.proofs.Theory.{places-in, apart, arranged-coordinates, arranged-runs, able}
 use borrow.Author.Needs.{needs}
 use Rattle.matrix.proofs.write.begin_rows.Statement.{statement}

@@ -7,7 +7,7 @@ use lib.ListN.{length, take, replicate}
 use lib.Seq.{length-take-le, length-front}
 use Rattle.basics.specs.Lists.{table}
 use Rattle.solving.specs.Tests.{room}
-use Rattle.generator.specs.Arranged.{freeAt}
+use Rattle.arrangement.specs.Arranged.{freeAt}
 use Rattle.matrix.proofs.Marks.{written-front, written-drop}
 use borrow.Author.Needs.{needs}
 use Rattle.matrix.proofs.write.write_rows.Statement.{statement}

@@ -8,7 +8,7 @@ ghost use Prim.Native.Nat.{_≤_};
 ghost use lib.ListN.{length};
 ghost use Rattle.basics.specs.Lists.{table};
 ghost use Rattle.values.specs.Values.{one};
-ghost use Rattle.generator.specs.Arranged.{freeAt, Places, Gathered, Arrangeable, Arranged};
+ghost use Rattle.arrangement.specs.Arranged.{freeAt, Places, Gathered, Arrangeable, Arranged};
 
 // Ones: every index is free, and the values of L = 1.
 pub fn fill_ones(out: &mut [u8])

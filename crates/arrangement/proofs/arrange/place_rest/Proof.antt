@@ -4,10 +4,10 @@ use mathlib.Core.Path.{sym, _∙_}
 use mathlib.Core.Logic.{⊎-elim}
 use native.Mathlib.Omega.{arith}
 use lib.ListN.{length}
-use Rattle.generator.proofs.Arranged.{marks-long, ArrangedTo, arranged-none, arranged-taken, room-for, arranged-free, arranged-all}
+use Rattle.arrangement.proofs.Arranged.{marks-long, ArrangedTo, arranged-none, arranged-taken, room-for, arranged-free, arranged-all}
 use borrow.Author.Needs.{needs}
-use Rattle.generator.proofs.arrange.place_rest.Statement.{statement}
-use Rattle.generator.proofs.arrange.place_rest.Tie as tie
+use Rattle.arrangement.proofs.arrange.place_rest.Statement.{statement}
+use Rattle.arrangement.proofs.arrange.place_rest.Tie as tie
 
 abbrev Inv-loop : tie.InvT-loop
 Inv-loop places free from out₀ s₀ t₀ out s t = ArrangedTo from places out t s

@@ -14,7 +14,7 @@ use lib.Seq.{getD-append-seam, getD-set-same, getD-set-other, take-suc, length-t
 use Rattle.basics.specs.Lists.{any, table}
 use Rattle.basics.proofs.Lists.{any-append, any-get, length-table, getD-table, is-table}
 use Rattle.engine.specs.Places.{coordinateAt, Chosen}
-use Rattle.generator.specs.Arranged.{freeAt, rank, Places, Apart, Gathered, Arrangeable, Arranged}
+use Rattle.arrangement.specs.Arranged.{freeAt, rank, Places, Apart, Gathered, Arrangeable, Arranged}
 
 -- ---- whether an index is free
 

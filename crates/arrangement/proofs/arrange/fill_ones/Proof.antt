@@ -6,8 +6,8 @@ use lib.ListN.{length, length-set}
 use Rattle.basics.proofs.Loops.{filled, filled-turn, filled-all}
 use Rattle.values.specs.Values.{one}
 use borrow.Author.Needs.{needs}
-use Rattle.generator.proofs.arrange.fill_ones.Statement.{statement}
-use Rattle.generator.proofs.arrange.fill_ones.Tie as tie
+use Rattle.arrangement.proofs.arrange.fill_ones.Statement.{statement}
+use Rattle.arrangement.proofs.arrange.fill_ones.Tie as tie
 
 abbrev Inv-loop : tie.InvT-loop
 Inv-loop out₀ i₀ out i = (i ≤ length out₀) × (length out ≡ length out₀) × (out ≡ filled one out₀ i)

@@ -6,11 +6,11 @@ use native.Mathlib.Omega.{arith}
 use lib.ListN.{length, getD, take, length-set}
 use lib.Seq.{take-all}
 use Rattle.basics.specs.Lists.{table}
-use Rattle.generator.specs.Arranged.{freeAt}
-use Rattle.generator.proofs.Arranged.{free-turn}
+use Rattle.arrangement.specs.Arranged.{freeAt}
+use Rattle.arrangement.proofs.Arranged.{free-turn}
 use borrow.Author.Needs.{needs}
-use Rattle.generator.proofs.arrange.mark.Statement.{statement}
-use Rattle.generator.proofs.arrange.mark.Tie as tie
+use Rattle.arrangement.proofs.arrange.mark.Statement.{statement}
+use Rattle.arrangement.proofs.arrange.mark.Tie as tie
 
 abbrev Inv-loop : tie.InvT-loop
 Inv-loop places free₀ j₀ free j = (j ≤ length places) × (length free ≡ length free₀) × (free ≡ table (freeAt (take j places)) (length free₀))

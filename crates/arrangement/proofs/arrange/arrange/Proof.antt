@@ -2,9 +2,9 @@
 use mathlib.Core.Path.{sym}
 use lib.Seq.{length-take-le}
 use borrow.Author.Needs.{needs}
-use Rattle.generator.proofs.Arranged.{places-fit, front-chosen, front-gathered, front-arrangeable}
-use Rattle.generator.proofs.arrange.arrange.Statement.{statement}
-use Rattle.generator.proofs.arrange.arrange.Tie as tie
+use Rattle.arrangement.proofs.Arranged.{places-fit, front-chosen, front-gathered, front-arrangeable}
+use Rattle.arrangement.proofs.arrange.arrange.Statement.{statement}
+use Rattle.arrangement.proofs.arrange.arrange.Tie as tie
 
 -- the moments of the run, each seen from a later one
 abbrev entry : tie.After-gather-arg → tie.Start

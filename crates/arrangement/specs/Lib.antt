@@ -1,0 +1,2 @@
+-- What the order is.
+pub mod Arranged
