@@ -1,13 +1,13 @@
 -- Tests that antt computes over all numbers below a bound, and the entries of lists that are made by a rule.
 use mathlib.Core.Path.{_≡_, refl, sym, ap, _∙_, subst}
-use mathlib.Core.Bool.{Bool, true, false, _&&_}
+use mathlib.Core.Bool.{Bool, true, false, not, _&&_, _||_}
 use mathlib.Core.Logic.{⊎-elim}
 use mathlib.Core.List.{List, [], _∷_}
 use Prim.Native.Nat.{ℕ, zero, suc, _+_, _-_, _/_, _%_, _<_}
 use native.Mathlib.Nat.{not-suc-le-zero, le-of-suc-le-suc, add-zero, add-suc, suc-add, eq-or-lt-of-le}
 use native.Mathlib.Omega.{arith}
-use native.Mathlib.Decide.{ℕ-discrete}
-use lib.Dec.{T}
+use borrow.Author.Tests.{lt-ltb}
+use lib.Dec.{T, eqb, ltb, eqb→eq}
 use lib.ListN.{length, getD}
 use Rattle.basics.specs.Lists.{same}
 use Rattle.basics.proofs.Lists.{same-true}
@@ -60,44 +60,28 @@ tabulate-at f i (suc n) (suc k) h = tabulate-at f (suc i) n k (le-of-suc-le-suc 
 
 -- ---- tables in the code, by field number
 
--- THE TEST of a table in the code, for all fields at once: each row is, entry by entry, what the rule gives for its field number
-unfoldable pub tableTest : (ℕ → List ℕ) → List (List ℕ) → Bool
-tableTest rule table = allBelow (λ k. same (rule (k + 2)) (getD table (k + 2) [])) (length rows - 2)
+-- THE TEST of two rows in the code, those of the field numbers 2k and 2k + 1: the row of a field is, entry by entry, what the rule gives for its number
+unfoldable pub rowsTest : (ℕ → List ℕ) → ℕ → List (List ℕ) → Bool
+rowsTest rule k pair = allBelow (λ b. not (ltb (k + k + b) (length rows)) || same (rule (k + k + b)) (getD pair b [])) 2
 
--- so a row of a table that passes it is the rule's
-pub tested : (rule : ℕ → List ℕ) (table : List (List ℕ)) → T (tableTest rule table) → {i m : ℕ} → i ≡ m → IsField m → getD table i [] ≡ rule m
-unfolding tableTest
-tested rule table t {m = m} e h =
-    ap (λ n. getD table n []) e ∙ sym (same-true (rule m) (getD table m []) (holds _ (each-field (λ m. same (rule m) (getD table m [])) t h)))
+-- so a row of two that pass it, read at the lowest bit of a field number, is the rule's
+pub tested : (rule : ℕ → List ℕ) (k : ℕ) (pair : List (List ℕ)) → T (rowsTest rule k pair) → {i m : ℕ} → i ≡ m % 2 → m / 2 ≡ k → IsField m → getD pair i [] ≡ rule m
+unfolding rowsTest rows
+tested rule k pair t {i} {m} e h f =
+    let number : k + k + m % 2 ≡ m = omega arith in
+    let passed = below (λ b. not (ltb (k + k + b) (length rows)) || same (rule (k + k + b)) (getD pair b [])) 2 t (m % 2) (omega arith) in
+    ap (λ n. getD pair n []) e
+    ∙ sym (same-true (rule m) (getD pair (m % 2) []) (holds _ _ (lt-ltb m (length rows) (omega arith)) (subst (λ n. T (not (ltb n (length rows)) || same (rule n) (getD pair (m % 2) []))) number passed)))
   where
-    holds : (b : Bool) → T b → b ≡ true
-    holds true t = refl
-    holds false t = absurd t
+    holds : (a b : Bool) → a ≡ true → T (not a || b) → b ≡ true
+    holds true true q t = refl
+    holds true false q t = absurd t
+    holds false b q t = absurd (let z : _≡_ {A = ℕ} 0 1 = cc in omega arith)
 
--- x for the numbers 0 and 1, which are no fields, and f at each field number
-abbrev byNumber : {A : Type 0} → (ℕ → A) → A → List A
-byNumber f x = x ∷ x ∷ f 2 ∷ f 3 ∷ f 4 ∷ f 5 ∷ f 6 ∷ f 7 ∷ f 8 ∷ []
+-- the same of a list of numbers by field number
+unfoldable pub numbersTest : (ℕ → ℕ) → List ℕ → Bool
+numbersTest rule table = allBelow (λ k. eqb (getD table (k + 2) 0) (rule (k + 2))) (length rows - 2)
 
-at-number : {A : Type 0} (f : ℕ → A) (x d : A) (m : ℕ) → IsField m → getD (byNumber f x) m d ≡ f m
-at-number f x d zero h = absurd (omega arith)
-at-number f x d (suc zero) h = absurd (omega arith)
-at-number f x d (suc (suc zero)) h = refl
-at-number f x d (suc (suc (suc zero))) h = refl
-at-number f x d (suc (suc (suc (suc zero)))) h = refl
-at-number f x d (suc (suc (suc (suc (suc zero))))) h = refl
-at-number f x d (suc (suc (suc (suc (suc (suc zero)))))) h = refl
-at-number f x d (suc (suc (suc (suc (suc (suc (suc zero))))))) h = refl
-at-number f x d (suc (suc (suc (suc (suc (suc (suc (suc zero)))))))) h = refl
-at-number f x d (suc (suc (suc (suc (suc (suc (suc (suc (suc m))))))))) h = absurd (omega arith)
-
--- a table in the code that holds these, read at i
-pub by-number : {A : Type 0} (f : ℕ → A) (x d : A) {i m : ℕ} → i ≡ m → IsField m → getD (byNumber f x) i d ≡ f m
-by-number f x d {m = m} e h = ap (λ n. getD (byNumber f x) n d) e ∙ at-number f x d m h
-
--- the tables of two field numbers side by side, read at the lowest bit of the number
-pub by-half : {A : Type 0} (f : ℕ → A) (d : A) (k : ℕ) {i m : ℕ} → i ≡ m % 2 → m / 2 ≡ k → getD (f (k + k) ∷ f (k + k + 1) ∷ []) i d ≡ f m
-by-half f d k {i} {m} e h = ap (λ n. getD (f (k + k) ∷ f (k + k + 1) ∷ []) n d) e ∙ go (ℕ-discrete (m % 2) 0)
-  where
-    go : Dec (m % 2 ≡ 0) → getD (f (k + k) ∷ f (k + k + 1) ∷ []) (m % 2) d ≡ f m
-    go (yes z) = let s : k + k ≡ m = omega arith in rw z (ap f s)
-    go (no n) = let one : m % 2 ≡ 1 = omega arith in let s : k + k + 1 ≡ m = omega arith in rw one (ap f s)
+pub by-number : (rule : ℕ → ℕ) (table : List ℕ) → T (numbersTest rule table) → {i m : ℕ} → i ≡ m → IsField m → getD table i 0 ≡ rule m
+unfolding numbersTest
+by-number rule table t {m = m} e h = ap (λ n. getD table n 0) e ∙ eqb→eq (getD table m 0) (rule m) (each-field (λ m. eqb (getD table m 0) (rule m)) t h)

@@ -138,10 +138,9 @@ fn negated(period: u16, l: u8) -> u16
     ensures { λ r. ⌜ r ≡ negated period l ⌝ }
 {
     if l == NO_BYTE {
-        NONE
-    } else {
-        period - l as u16
+        return NONE;
     }
+    period - l as u16
 }
 
 fn put_logs(m: u8, row: &[u8; 256], out: &mut [u16; 512])
