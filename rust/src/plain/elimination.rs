@@ -1,42 +1,13 @@
 //! The same for speed, over places: linear equations by elimination, with logarithms kept.
 use super::fast::{check, value};
-use super::field::Field;
+use super::field::{Field, LOG_OF_ZERO};
 use crate::{Answer, Code, MOST_POINTS, WORKING_SPACE};
-
-/// The logarithm that stands for zero.
-const NONE: u8 = 255;
-
-impl Field {
-    #[inline]
-    fn log(&self, a: u8) -> u8 {
-        if a == 0 {
-            NONE
-        } else {
-            self.logs[a as usize]
-        }
-    }
-
-    /// A row gains a multiple of another, whose logarithms are given.
-    #[inline]
-    fn add_multiple(&self, factor: u8, logs: &[u8], row: &mut [u8]) {
-        if factor == 0 {
-            return;
-        }
-        let factor = self.logs[factor as usize] as usize;
-        for (a, &b) in row.iter_mut().zip(logs) {
-            if b != NONE {
-                let i = factor + b as usize;
-                *a ^= self.powers[if i < 255 { i } else { i - 255 }];
-            }
-        }
-    }
-}
 
 /// Equations in k unknowns in row echelon form. A row is k factors and the right side as logarithms, and begins with 1 at its pivot.
 struct Echelon<'a> {
     field: &'a Field,
     k: usize,
-    rows: Vec<u8>,
+    rows: Vec<u16>,
     pivots: Vec<usize>,
 }
 
@@ -84,8 +55,9 @@ impl<'a> Echelon<'a> {
         }
         let mut unknowns = [0; MOST_POINTS];
         for (row, &pivot) in self.rows.chunks_exact(k + 1).zip(&self.pivots).rev() {
-            let part = |b: u8, unknown: u8| if b == NONE { 0 } else { field.product(field.powers[b as usize], unknown) };
-            unknowns[pivot] = (pivot + 1..k).fold(part(row[k], 1), |sum, j| sum ^ part(row[j], unknowns[j]));
+            let right_side = field.power(row[k], 0);
+            let others = row[pivot + 1..k].iter().zip(&unknowns[pivot + 1..k]);
+            unknowns[pivot] = others.fold(right_side, |sum, (&b, &unknown)| sum ^ field.power(b, field.log(unknown)));
         }
         Some(unknowns)
     }
@@ -142,7 +114,7 @@ fn generator(field: &Field, code: &Code, places: &[u16]) -> Vec<u8> {
 /// Makes the first k columns of k rows of n those of the unit matrix; answers whether that can be done. What is past them is all that it leaves
 /// right, so that the way back from the last row up is through fewer columns.
 fn eliminate(field: &Field, rows: &mut [u8], n: usize, k: usize) -> bool {
-    let mut logs = [NONE; MOST_POINTS];
+    let mut logs = [LOG_OF_ZERO; MOST_POINTS];
     for i in 0..k {
         let Some(found) = (i..k).find(|&j| rows[j * n + i] != 0) else {
             return false;

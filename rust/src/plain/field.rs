@@ -51,53 +51,81 @@ pub fn power(field: u8, a: u8, n: usize) -> u8 {
     }
 }
 
-/// Power and logarithm tables of one field.
+/// What stands for the logarithm of zero: added to any logarithm it leads past the powers.
+pub const LOG_OF_ZERO: u16 = 510;
+
+/// Tables of one field, which give products and quotients without a branch: a zero factor or divisor gives zero.
 #[derive(Clone)]
 pub struct Field {
     pub number: u8,
-    pub powers: [u8; 255],
-    pub logs: [u8; 256],
+    /// The 255 powers twice, then zeros; masking an index to its length spares a test of the bound.
+    powers: [u8; 1024],
+    logs: [u16; 256],
+    /// The logarithm of the inverse.
+    inverse_logs: [u16; 256],
 }
 
 impl Field {
     pub const fn new(number: u8) -> Self {
-        let mut powers = [1; 255];
-        let mut logs = [0; 256];
-        let mut i = 1;
-        while i < 255 {
-            powers[i] = slow_product(number, powers[i - 1], 2);
-            i += 1;
-        }
+        let mut powers = [0; 1024];
+        let mut logs = [LOG_OF_ZERO; 256];
+        let mut inverse_logs = [LOG_OF_ZERO; 256];
+        let order = (1 << number) - 1;
+        let mut power = 1;
         let mut i = 0;
-        while i < (1 << number) - 1 {
-            logs[powers[i] as usize] = i as u8;
+        while i < 510 {
+            powers[i] = power;
+            if i < order {
+                logs[power as usize] = i as u16;
+                inverse_logs[power as usize] = (order - i) as u16;
+            }
+            power = slow_product(number, power, 2);
             i += 1;
         }
-        Field { number, powers, logs }
+        Field { number, powers, logs, inverse_logs }
     }
 
     pub fn size(&self) -> usize {
         1 << self.number
     }
 
-    /// As one would write it: zero apart, and exponents added modulo 255.
     #[inline]
-    pub fn product(&self, a: u8, b: u8) -> u8 {
-        if a == 0 || b == 0 {
-            return 0;
-        }
-        let i = self.logs[a as usize] as usize + self.logs[b as usize] as usize;
-        self.powers[if i < 255 { i } else { i - 255 }]
+    pub fn log(&self, a: u8) -> u16 {
+        self.logs[a as usize]
     }
 
-    /// `a` over `b`, which is not zero.
+    /// The power whose exponent is the sum of two logarithms.
+    #[inline]
+    pub fn power(&self, a: u16, b: u16) -> u8 {
+        self.powers[(a + b) as usize & 1023]
+    }
+
+    #[inline]
+    pub fn product(&self, a: u8, b: u8) -> u8 {
+        self.power(self.log(a), self.log(b))
+    }
+
     #[inline]
     pub fn quotient(&self, a: u8, b: u8) -> u8 {
-        if a == 0 {
-            return 0;
+        self.power(self.log(a), self.inverse_logs[b as usize])
+    }
+
+    /// A row gains a multiple of another, as long and given by logarithms. Eight at a time, from a window that begins at the factor's power.
+    #[inline]
+    pub fn add_multiple(&self, factor: u8, logs: &[u16], row: &mut [u8]) {
+        let factor = self.log(factor) as usize & 511;
+        let window: &[u8; 512] = self.powers[factor..][..512].try_into().unwrap();
+        let multiple = |b: u16| window[b as usize & 511];
+        let (eights, rest) = row.as_chunks_mut::<8>();
+        let (eights_too, rest_too) = logs.as_chunks::<8>();
+        for (a, b) in eights.iter_mut().zip(eights_too) {
+            for i in 0..8 {
+                a[i] ^= multiple(b[i]);
+            }
         }
-        let i = self.logs[a as usize] as usize + (self.size() - 1) - self.logs[b as usize] as usize;
-        self.powers[if i < 255 { i } else { i - 255 }]
+        for (a, &b) in rest.iter_mut().zip(rest_too) {
+            *a ^= multiple(b);
+        }
     }
 }
 

@@ -1,0 +1,175 @@
+//! What each operation costs beside the same job in plain Rust: both sides in one run, on the same inputs, which differ from call to call, so that no
+//! branch is learned. Writes the median times, the median of the ratios, and whether the bars are met. Both sides test the code in every call, and
+//! must give the same.
+//!
+//!     cargo bench                    all rows
+//!     cargo bench -- matrix plain    rows with one of these words in their names
+//!
+//! With the folder of another libabi.a in VAKHUDLE_ARCHIVE that archive is measured.
+mod inputs;
+mod timing;
+
+use inputs::Kind;
+use timing::{Bench, Row};
+use vakhudle::plain::fast;
+use vakhudle::{MASK_BYTES, MOST_POINTS, WORKING_SPACE};
+
+fn products(bench: &Bench, field: u8, inputs: usize) {
+    let n = 4096;
+    bench.compare(
+        Row::new(format!("a product, field {field}, lists of {n}"), inputs).parts(n),
+        n,
+        |random| (random.symbols(field, n), random.symbols(field, n)),
+        |(a, b), out| vakhudle::products(field, a, b, out),
+        |(a, b), out| fast::products(field, a, b, out),
+    );
+}
+
+/// `bar` is for the curves with the most points.
+fn points(bench: &Bench, kind: Kind, bar: Option<f64>) {
+    let Kind { field, n, inputs, .. } = kind;
+    let ours = |curve: &[u8; 5], out: &mut [u8]| {
+        let (xs, ys) = out.split_at_mut(MOST_POINTS);
+        vakhudle::points(field, *curve, xs, ys)
+    };
+    let plain = |curve: &[u8; 5], out: &mut [u8]| {
+        let (xs, ys) = out.split_at_mut(MOST_POINTS);
+        fast::points(field, *curve, xs, ys)
+    };
+    let row = |curves: String| Row::new(format!("points, m = {field}, {curves}"), inputs);
+    bench.compare(row(format!("n = {n}")).bar(bar), 2 * MOST_POINTS, |random| inputs::full_curve(&kind, random).0, ours, plain);
+    bench.compare(row("any curve".into()), 2 * MOST_POINTS, |random| inputs::curve(field, random).0, ours, plain);
+}
+
+/// Heard: with an empty mask there is hardly more to do than the code test.
+fn masks(bench: &Bench, kind: Kind) {
+    let masks = [("code test", (|_, _| vec![0; MASK_BYTES]) as fn(&_, &mut _) -> Vec<u8>), ("heard", inputs::mask)];
+    for (job, mask) in masks {
+        bench.compare(
+            Row::new(kind.named(job), kind.inputs),
+            MOST_POINTS,
+            |random| (inputs::code(&kind, random), mask(&kind, random)),
+            |(code, mask), out| vakhudle::heard(&code.code(), mask, out),
+            |(code, mask), out| fast::heard(&code.code(), mask, out),
+        );
+    }
+}
+
+fn packing(bench: &Bench, kind: Kind) {
+    let hours = kind.hours();
+    bench.compare(
+        Row::new(kind.named(&format!("pack {hours} hours")), kind.inputs),
+        kind.k,
+        |random| (inputs::code(&kind, random), inputs::block_means(&kind, random)),
+        |(code, means), out| vakhudle::pack(&code.code(), means, out),
+        |(code, means), out| fast::pack(&code.code(), means, out),
+    );
+    bench.compare(
+        Row::new(kind.named(&format!("unpack {hours} hours")), kind.inputs),
+        hours,
+        |random| {
+            let (code, mut symbols) = (inputs::code(&kind, random), vec![0; kind.k]);
+            fast::pack(&code.code(), &inputs::block_means(&kind, random), &mut symbols).unwrap();
+            (code, symbols)
+        },
+        |(code, symbols), out| vakhudle::unpack(&code.code(), symbols, out),
+        |(code, symbols), out| fast::unpack(&code.code(), symbols, out),
+    );
+}
+
+fn plain(bench: &Bench, kind: Kind, bar: f64) {
+    bench.compare(
+        Row::new(kind.named("plain"), kind.inputs).bar(bar),
+        kind.n,
+        |random| (inputs::code(&kind, random), random.symbols(kind.field, kind.k)),
+        |(code, coefficients), out| vakhudle::plain(&code.code(), coefficients, out),
+        |(code, coefficients), out| fast::plain(&code.code(), coefficients, out),
+    );
+}
+
+/// Beside elimination of the k by k system, and evaluation. `bar` is for words, `bar_of_pick` for Pick.
+fn places(bench: &Bench, kind: Kind, bar: f64, bar_of_pick: f64) {
+    let (mut work, mut work_too) = (vec![0; WORKING_SPACE], vec![0; WORKING_SPACE]);
+    bench.compare(
+        Row::new(kind.named("systematic word"), kind.inputs).bar(bar),
+        kind.n,
+        |random| {
+            let code = inputs::code(&kind, random);
+            (inputs::choice(&kind, &code, random), random.symbols(kind.field, kind.k), code)
+        },
+        |(choice, message, code), out| vakhudle::systematic_word(&code.code(), choice, message, out, &mut work),
+        |(choice, message, code), out| fast::systematic_word(&code.code(), choice, message, out, &mut work_too),
+    );
+    bench.compare(
+        Row::new(kind.named("rebuild"), kind.inputs).bar(bar),
+        kind.n,
+        |random| {
+            let code = inputs::code(&kind, random);
+            (inputs::heard_word(&kind, &code, random), code)
+        },
+        |((heard, symbols), code), out| vakhudle::rebuild(&code.code(), heard, symbols, out, &mut work),
+        |((heard, symbols), code), out| fast::rebuild(&code.code(), heard, symbols, out, &mut work_too),
+    );
+    bench.compare(
+        Row::new(kind.named("pick"), kind.inputs).bar(bar_of_pick),
+        kind.k,
+        |random| (inputs::code(&kind, random), inputs::heard(&kind, random)),
+        |(code, heard), out| vakhudle::pick(&code.code(), heard, out, &mut work),
+        |(code, heard), out| fast::pick(&code.code(), heard, out, &mut work_too),
+    );
+}
+
+/// Beside one elimination of the k by n generator matrix. Answers our time for a symbol.
+fn matrix(bench: &Bench, kind: Kind, bar: Option<f64>) -> Option<f64> {
+    let (mut work, mut work_too) = (vec![0; WORKING_SPACE], vec![0; WORKING_SPACE]);
+    let symbols = kind.k * kind.n;
+    let ours = bench.compare(
+        Row::new(kind.named("matrix"), kind.inputs).bar(bar),
+        symbols,
+        |random| {
+            let code = inputs::code(&kind, random);
+            (inputs::choice(&kind, &code, random), code)
+        },
+        |(choice, code), out| vakhudle::matrix(&code.code(), choice, out, &mut work),
+        |(choice, code), out| fast::matrix(&code.code(), choice, out, &mut work_too),
+    );
+    ours.map(|time| time / symbols as f64)
+}
+
+fn means(bench: &Bench) {
+    bench.compare(
+        Row::new("means of 24 hours, seven readings of eight".into(), 1000),
+        24,
+        inputs::day,
+        |(first_hour, stamps, readings), out| vakhudle::means(stamps, readings, *first_hour, out),
+        |(first_hour, stamps, readings), out| fast::means(stamps, readings, *first_hour, out),
+    );
+}
+
+fn main() {
+    // cargo itself adds --bench
+    let bench = Bench { wanted: std::env::args().skip(1).filter(|word| !word.starts_with('-')).collect() };
+    let small = Kind { field: 6, n: 80, k: 60, inputs: 1000 };
+    let large = Kind { field: 8, n: 288, k: 200, inputs: 100 };
+    bench.heading();
+    products(&bench, 6, 1000);
+    products(&bench, 8, 100);
+    points(&bench, small, Some(3.0));
+    points(&bench, large, None);
+    for (kind, bar) in [(small, 2.0), (large, 3.0)] {
+        plain(&bench, kind, bar);
+        masks(&bench, kind);
+        packing(&bench, kind);
+    }
+    means(&bench);
+    places(&bench, small, 8.0, 20.0);
+    places(&bench, large, 20.0, 50.0);
+    matrix(&bench, small, Some(8.0));
+    let grows: Vec<_> = [50, 100, 200].map(|k| (k, matrix(&bench, Kind { k, ..large }, (k == 200).then_some(15.0)))).into();
+    bench.empty();
+    for (k, time) in grows {
+        if let Some(time) = time {
+            println!("A symbol of Matrix takes {time:.2} ns at m = 8, n = 288, k = {k}.");
+        }
+    }
+}
