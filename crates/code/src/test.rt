@@ -175,7 +175,24 @@ fn test_points(
     Answer::Done
 }
 
-// The answer of the code test.
+// The code test where the field number is right: numbers 2 to 7. An operation makes the tables and passes them on.
+pub fn test_code_with(
+    p: Parameters,
+    powers: &[u8; 1021],
+    logs: &[u16; 512],
+    xs: &[u8],
+    ys: &[u8],
+) -> Answer
+    requires { ⌜ Tables (p .field) (now powers) (now logs) ⌝ }
+    ensures { λ r. ⌜ r ≡ codeAnswer (codeOf p (now (xs .entry)) (now (ys .entry))) ⌝ }
+{
+    if !coefficients_below(p.field, p.curve) {
+        return Answer::Refused(Refusal::CurveCoefficient);
+    }
+    test_points(p, powers, logs, xs, ys)
+}
+
+// The answer of the code test, for callers that need no tables.
 pub fn test_code(p: Parameters, xs: &[u8], ys: &[u8]) -> Answer
     ensures { λ r. ⌜ r ≡ codeAnswer (codeOf p (now (xs .entry)) (now (ys .entry))) ⌝ }
 {
@@ -183,8 +200,5 @@ pub fn test_code(p: Parameters, xs: &[u8], ys: &[u8]) -> Answer
     if !is_field(m) {
         return Answer::Refused(Refusal::FieldNumber);
     }
-    if !coefficients_below(m, p.curve) {
-        return Answer::Refused(Refusal::CurveCoefficient);
-    }
-    test_points(p, &powers(m), &logarithms(m), xs, ys)
+    test_code_with(p, &powers(m), &logarithms(m), xs, ys)
 }
