@@ -1,10 +1,10 @@
 -- An operation that begins with the code test. It tests the field number, makes the field's tables, and has the rest tested by them:
 -- it goes on where the answer is Done, and else the answer is the operation's own.
-use Prim.{Unit, tt}
+use Prim.{Unit}
 use Prim.Native.Nat.{ℕ, _≤_}
 use mathlib.Core.Bool.{Bool, true, false, not}
-use mathlib.Core.List.{List, [], _∷_}
-use mathlib.Core.Path.{_≡_, refl, sym, _∙_, ap}
+use mathlib.Core.List.{[], _∷_}
+use mathlib.Core.Path.{_≡_, refl, sym, _∙_}
 use mathlib.Core.Logic.{⊎-elim}
 use native.Mathlib.Omega.{arith}
 use types.Run.{OneOf}
@@ -15,7 +15,7 @@ use lib.ListN.{length}
 use Rattle.basics.specs.declared.Refusal.{Refusal}
 use Rattle.basics.specs.declared.Answer.{Answer}
 use Rattle.basics.specs.declared.Answer.the-variants.{Done, Refused}
-use Rattle.basics.specs.Outcome.{Outcome, refused, accepted, check, answer, left, counts, Meets}
+use Rattle.basics.specs.Outcome.{Outcome, check, answer, left, counts, Meets}
 use Rattle.basics.proofs.Answer.{the-type}
 use Rattle.basics.proofs.Outcomes.{meets-as, counts-check, counts-if}
 use Rattle.basics.proofs.Lists.{both}

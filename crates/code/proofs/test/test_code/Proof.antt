@@ -1,5 +1,5 @@
 -- The field number and the tables, and then the rest.
-use mathlib.Core.Path.{_≡_, sym, _∙_}
+use mathlib.Core.Path.{sym, _∙_}
 use borrow.Author.Tests.{not-true}
 use Rattle.field.specs.Galois.{IsField}
 use Rattle.codewords.specs.Code.{codeAnswer}
