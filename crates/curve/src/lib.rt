@@ -3,16 +3,18 @@ ghost use mathlib.Core.Path.{_≡_};
 ghost use mathlib.Core.Bool.{true};
 ghost use mathlib.Core.List.{_∷_, []};
 ghost use lib.Dec.{eqb};
+ghost use lib.ListN.{getD};
 ghost use Rattle.basics.specs.Lists.{filter, table};
 ghost use Rattle.basics.specs.Outcome.{Meets};
 ghost use Rattle.field.specs.Sum.{_⊕_};
-ghost use Rattle.field.specs.Galois.{IsField, size, galois, product};
+ghost use Rattle.field.specs.Galois.{IsField, size, galois, product, inverse};
 ghost use Rattle.field.specs.Tables.{Tables};
 ghost use Rattle.elliptic.specs.Curve.{point, right, onCurve, opposite, singular, affinePoints};
 ghost use Rattle.elliptic.specs.Curve.{coefficientsBelow};
 ghost use Rattle.point_count.specs.Singular.{candidate};
 ghost use Rattle.curve.specs.Points.{pointsOutcome};
 ghost use Rattle.curve.specs.Listing.{Rooms, Appends, Listed};
+ghost use Rattle.curve.specs.Roots.{squarePlus, Inverts, lesser, greater};
 use basics::Answer;
 use basics::Refusal;
 use basics::byte::wide;
@@ -161,6 +163,97 @@ fn append_column(
     count
 }
 
+// Stores each z at z² + z. Two have the same z² + z, z and z + 1: the second stays, and none is 0.
+fn fill_roots(m: u8, powers: &[u8; 1021], logs: &[u16; 512], roots: &mut [u8; 256])
+    requires { ⌜ Tables m (now powers) (now logs) × Inverts (squarePlus m) 0 (now roots) ⌝ }
+    ensures { λ _. ⌜ Inverts (squarePlus m) (size m) (now (roots .exit)) ⌝ }
+{
+    let q = size(m);
+    let mut z = 0;
+    while z < q {
+        let b = z as u8;
+        let at = wide(product(m, powers, logs, b, add(b, 1)));
+        roots[at] = b;
+        z += 1;
+    }
+}
+
+// For each c a z with z² + z = c, or 0.
+fn roots(m: u8, powers: &[u8; 1021], logs: &[u16; 512]) -> [u8; 256]
+    requires { ⌜ Tables m (now powers) (now logs) ⌝ }
+    ensures { λ r. ⌜ Inverts (squarePlus m) (size m) r ⌝ }
+{
+    let mut roots = [0u8; 256];
+    fill_roots(m, powers, logs, &mut roots);
+    roots
+}
+
+// The z for v over t²: t·z then solves Y² + t·Y = v.
+fn root(m: u8, powers: &[u8; 1021], logs: &[u16; 512], roots: &[u8; 256], t: u8, v: u8) -> u8
+    requires { ⌜ Tables m (now powers) (now logs) ⌝ }
+    ensures { λ r. ⌜ r ≡ getD (now (roots .entry)) (product m (product m v (inverse m t)) (inverse m t)) 0 ⌝ }
+{
+    let c = quotient(m, powers, logs, quotient(m, powers, logs, v, t), t);
+    roots[wide(c)]
+}
+
+fn lesser(a: u8, b: u8) -> u8
+    ensures { λ r. ⌜ r ≡ lesser a b ⌝ }
+{
+    if a < b { a } else { b }
+}
+
+fn greater(a: u8, b: u8) -> u8
+    ensures { λ r. ⌜ r ≡ greater a b ⌝ }
+{
+    if a < b { b } else { a }
+}
+
+// Appends the two points over x with these Y, by Y.
+fn append_pair(xs: &mut [u8], ys: &mut [u8], start: usize, x: u8, a: u8, b: u8) -> usize
+    requires { ⌜ Rooms (now xs) (now ys) ⌝ }
+    ensures { λ r. ⌜ Appends (point x (lesser a b) ∷ point x (greater a b) ∷ []) (now (xs .entry)) (now (ys .entry)) start (now (xs .exit)) (now (ys .exit)) r ⌝ }
+{
+    let low = Point {
+        x: x,
+        y: lesser(a, b),
+    };
+    let high = Point {
+        x: x,
+        y: greater(a, b),
+    };
+    let count = append(xs, ys, start, low);
+    append(xs, ys, count, high)
+}
+
+// Appends the points over x, by Y: without a scan, unless x is the one whose points are their own opposites.
+fn append_over(
+    m: u8,
+    powers: &[u8; 1021],
+    logs: &[u16; 512],
+    roots: &[u8; 256],
+    c: Curve,
+    x: u8,
+    xs: &mut [u8],
+    ys: &mut [u8],
+    start: usize,
+) -> usize
+    requires { ⌜ Tables m (now powers) (now logs) × Inverts (squarePlus m) (size m) (now roots) ⌝ }
+    requires { ⌜ (coefficientsBelow (size m) c ≡ true) × Rooms (now xs) (now ys) ⌝ }
+    ensures { λ r. ⌜ Appends (filter (onCurve (galois m) c) (table (point x) (size m))) (now (xs .entry)) (now (ys .entry)) start (now (xs .exit)) (now (ys .exit)) r ⌝ }
+{
+    let t = trace(m, powers, logs, c, x);
+    if t == 0 {
+        return append_column(m, powers, logs, c, x, xs, ys, start);
+    }
+    let z = root(m, powers, logs, roots, t, right(m, powers, logs, c, x));
+    if z == 0 {
+        return start;
+    }
+    let y = product(m, powers, logs, t, z);
+    append_pair(xs, ys, start, x, y, add(y, t))
+}
+
 // Lists all points, by X, then Y.
 fn fill_points(
     m: u8,
@@ -170,14 +263,16 @@ fn fill_points(
     xs: &mut [u8],
     ys: &mut [u8],
 ) -> usize
-    requires { ⌜ Tables m (now powers) (now logs) × Rooms (now xs) (now ys) ⌝ }
+    requires { ⌜ Tables m (now powers) (now logs) ⌝ }
+    requires { ⌜ (coefficientsBelow (size m) c ≡ true) × Rooms (now xs) (now ys) ⌝ }
     ensures { λ r. ⌜ Listed (affinePoints (galois m) c) (now (xs .entry)) (now (ys .entry)) (now (xs .exit)) (now (ys .exit)) r ⌝ }
 {
     let q = size(m);
+    let roots = roots(m, powers, logs);
     let mut count = 0;
     let mut x = 0;
     while x < q {
-        count = append_column(m, powers, logs, c, x as u8, xs, ys, count);
+        count = append_over(m, powers, logs, &roots, c, x as u8, xs, ys, count);
         x += 1;
     }
     count

@@ -1,0 +1,16 @@
+-- The two cases of the test.
+use borrow.Author.Tests.{lt-ltb, le-ltb}
+use Rattle.curve.specs.Roots.{greater}
+use Rattle.curve.proofs.greater.Statement.{statement}
+use Rattle.curve.proofs.greater.Tie as tie
+
+returns : tie.Need-returns
+unfolding greater
+returns c = rw (lt-ltb (c .before .args .a) (c .before .args .b) (c .if1 .taken))
+
+returns-2 : tie.Need-returns-2
+unfolding greater
+returns-2 c = rw (le-ltb (c .before .args .a) (c .before .args .b) (c .if1 .left))
+
+pub greater-spec : {M : Type 1} → statement M
+greater-spec = tie.close (tie.spec returns returns-2)
