@@ -61,7 +61,7 @@ module _ (f : ℕ → ℕ) where
 
 module _ {A : Type 0} (p : A → Bool) (f : ℕ → A) where
   -- nothing passes from k on
-  pub filter-skip : (k n : ℕ) → k ≤ n → ((i : ℕ) → k ≤ i → i < n → p (f i) ≡ false) → filter p (table f n) ≡ filter p (table f k)
+  filter-skip : (k n : ℕ) → k ≤ n → ((i : ℕ) → k ≤ i → i < n → p (f i) ≡ false) → filter p (table f n) ≡ filter p (table f k)
   filter-skip k zero h g = let e : 0 ≡ k = omega arith in ap (λ i. filter p (table f i)) e
   filter-skip k (suc n) h g =
       elim (decLt n k) [
