@@ -1,9 +1,10 @@
 -- Y² + t·Y = v, where t is not 0: Y is t·z with z² + z = v/t², and with z so does z + 1. So a table of such z finds both Y over an X, or that there is none.
 use Prim.Native.Nat.{ℕ, zero, suc, _+_, _≤_, _<_}
 use mathlib.Core.Bool.{Bool, true, false}
-use mathlib.Core.Path.{_≡_, sym, ap, _∙_}
+use mathlib.Core.Path.{_≡_, refl, sym, ap, _∙_}
 use mathlib.Core.List.{List, [], _∷_, _++_, append-nil}
 use native.Mathlib.Decide.{ℕ-discrete, decLt}
+use native.Mathlib.Nat.{not-suc-le-zero}
 use native.Mathlib.Omega.{arith}
 use borrow.Author.Tests.{eq-eqb, ne-eqb, lt-ltb, le-ltb}
 use lib.ListN.{getD, set, replicate, length-replicate, length-set}
@@ -18,9 +19,9 @@ use Rattle.field.proofs.Sum.{⊕-assoc, ⊕-eq, ⊕-self, ⊕-zero, ⊕-cancel}
 use Rattle.field.proofs.Field.{ring, mul-one, no-zero-div, zero-·}
 use Rattle.field.proofs.Galois.{galois-field}
 use Rattle.elliptic.specs.declared.Curve.{Curve}
-use Rattle.elliptic.specs.Curve.{point, right, onCurve, coefficientsBelow}
+use Rattle.elliptic.specs.Curve.{point, right, coefficientsBelow}
 use Rattle.point_count.proofs.Singular.{g3-lt, right-lt}
-use Rattle.curve.specs.Roots.{squarePlus, Inverts, lesser, greater}
+use Rattle.curve.specs.Roots.{squarePlus, Inverts, lesser, greater, pointsOver, Found, AllFound}
 use Rattle.curve.proofs.Equation.{solution, column-as}
 
 -- ---- the table, whatever function it inverts
@@ -47,9 +48,9 @@ module _ (f : ℕ → ℕ) where
       there : (c : ℕ) → (c ≡ f n → ⊥) → getD (set r (f n) n) c 0 ≡ getD r c 0
       there c k = getD-set-other r (f n) c n 0 k
 
-      back : (c : ℕ) → (getD (set r (f n) n) c 0 ≡ 0 → ⊥) → Dec (c ≡ f n) → f (getD (set r (f n) n) c 0) ≡ c
-      back c k (yes e) = rw (e, here)
-      back c k (no d) = rw (there c d) (i .back c (λ z. k (there c d ∙ z)))
+      back : (c : ℕ) → (getD (set r (f n) n) c 0 ≡ 0 → ⊥) → Dec (c ≡ f n) → (getD (set r (f n) n) c 0 < n + 1) × (f (getD (set r (f n) n) c 0) ≡ c)
+      back c k (yes e) = rw (e, here) (omega arith, refl)
+      back c k (no d) = let b = i .back c (λ z. k (there c d ∙ z)) in rw (there c d) (omega arith, b .1)
 
       met : (z : ℕ) → z < n + 1 → (z ≡ 0 → ⊥) → Dec (f z ≡ f n) → getD (set r (f n) n) (f z) 0 ≡ 0 → ⊥
       met z l k (yes e) o = let none : n ≡ 0 = sym here ∙ ap (λ c. getD (set r (f n) n) c 0) (sym e) ∙ o in k (omega arith)
@@ -133,8 +134,8 @@ module _ {F : Arithmetic} (K : Field F) where
 
 -- ---- the points over an X
 
-module _ {m : ℕ} (h : IsField m) (C : Curve) (below : coefficientsBelow (size m) C ≡ true) (x : ℕ) {r : List ℕ} (i : Inverts (squarePlus m) (size m) r) {t v z : ℕ}
-    (is-t : t ≡ product m (C .g1) x ⊕ C .g3) (is-v : v ≡ right (galois m) C x) (nt : t ≡ 0 → ⊥) (is-z : z ≡ getD r (product m (product m v (inverse m t)) (inverse m t)) 0) where
+module _ {m : ℕ} (h : IsField m) (C : Curve) (below : coefficientsBelow (size m) C ≡ true) (x : ℕ) {r : List ℕ} (i : Inverts (squarePlus m) (size m) r) {t v z y : ℕ}
+    (is-t : t ≡ product m (C .g1) x ⊕ C .g3) (is-v : v ≡ right (galois m) C x) (is-z : z ≡ getD r (product m (product m v (inverse m t)) (inverse m t)) 0) (is-y : y ≡ product m t z) where
   K : Field (galois m)
   K = galois-field h
 
@@ -144,28 +145,58 @@ module _ {m : ℕ} (h : IsField m) (C : Curve) (below : coefficientsBelow (size 
   v-lt : v < size m
   v-lt = rw is-v (right-lt K C below x)
 
-  -- the solutions are the points
-  over : filter (solution m t v) (table (point x) (size m)) ≡ filter (onCurve (galois m) C) (table (point x) (size m))
-  over = rw (is-t, is-v) (column-as h C x (size m))
+  y-lt : y < size m
+  y-lt = rw is-y (K .mul-lt t z)
 
-  pub over-none : z ≡ 0 → [] ≡ filter (onCurve (galois m) C) (table (point x) (size m))
-  over-none e = sym (filter-skip (solution m t v) (point x) 0 (size m) (omega arith) (λ y l k. ne-eqb _ _ (unsolved y))) ∙ over
+  -- the points are the solutions
+  over : pointsOver m C x ≡ filter (solution m t v) (table (point x) (size m))
+  over = rw (is-t, is-v) (sym (column-as h C x (size m)))
+
+  none : (t ≡ 0 → ⊥) → z ≡ 0 → pointsOver m C x ≡ []
+  none nt e = over ∙ filter-skip (solution m t v) (point x) 0 (size m) (omega arith) (λ y l k. ne-eqb _ _ (unsolved y))
     where
       unsolved : (y : ℕ) → product m y (y ⊕ t) ≡ v → ⊥
       unsolved y s = entered K i (product m y (inverse m t)) (K .mul-lt _ _) (ap (λ c. getD r c 0) (to-root K t v t-lt nt v-lt y s) ∙ sym is-z ∙ e)
 
-  pub over-two : {y o : ℕ} → y ≡ product m t z → o ≡ y ⊕ t → (z ≡ 0 → ⊥) → point x (lesser y o) ∷ point x (greater y o) ∷ [] ≡ filter (onCurve (galois m) C) (table (point x) (size m))
-  over-two {y} {o} is-y is-o n =
-      let y-lt : y < size m = rw is-y (K .mul-lt t z) in
+  two : {o : ℕ} → (t ≡ 0 → ⊥) → o ≡ y ⊕ t → (z ≡ 0 → ⊥) → pointsOver m C x ≡ point x (lesser y o) ∷ point x (greater y o) ∷ []
+  two {o} nt is-o n =
       let o-lt : o < size m = rw is-o (K .add-lt y t y-lt t-lt) in
-      sym (filter-pair (solution m t v) (point x) (size m) y o apart y-lt o-lt (eq-eqb _ _ solves) (eq-eqb _ _ opposite-solves)
-      (λ w l a b. ne-eqb _ _ (λ s. no-third K t w y t-lt l y-lt (s ∙ sym solves) a (λ e. b (e ∙ sym is-o))))) ∙ over
+      over ∙ filter-pair (solution m t v) (point x) (size m) y o apart y-lt o-lt (eq-eqb _ _ solves) (eq-eqb _ _ opposite-solves)
+      (λ w l a b. ne-eqb _ _ (λ s. no-third K t w y t-lt l y-lt (s ∙ sym solves) a (λ e. b (e ∙ sym is-o))))
     where
       solves : product m y (y ⊕ t) ≡ v
-      solves = rw is-y (from-root K t v t-lt nt v-lt z (rw is-z (i .back _ (λ e. n (is-z ∙ e)))))
+      solves = rw is-y (from-root K t v t-lt nt v-lt z (rw is-z (i .back _ (λ e. n (is-z ∙ e)) .1)))
 
       opposite-solves : product m o (o ⊕ t) ≡ v
       opposite-solves = rw (is-o, ⊕-assoc y t t, ⊕-self t, ⊕-zero y) (K .mul-comm (y ⊕ t) y ∙ solves)
 
       apart : y ≡ o → ⊥
       apart e = nt (sym (⊕-cancel y t) ∙ ap (λ s. y ⊕ s) (sym (e ∙ is-o)) ∙ ⊕-self y)
+
+  -- y is 0 only where z is
+  no-root : (t ≡ 0 → ⊥) → y ≡ 0 → z ≡ 0
+  no-root nt e = by (ℕ-discrete z 0)
+    where
+      by : Dec (z ≡ 0) → z ≡ 0
+      by (yes d) = d
+      by (no n) = no-zero-div K t z t-lt (rw is-z (i .back _ (λ d. n (is-z ∙ d)) .0)) nt (sym is-y ∙ e)
+
+  pub found : Found m C x y
+  found = record {
+    no-point = λ {t = s} is-s ns e. let nt : t ≡ 0 → ⊥ = λ d. ns (is-s ∙ sym is-t ∙ d) in none nt (no-root nt e);
+    two-points = λ {t = s} {o} is-s ns is-o n.
+        two (λ d. ns (is-s ∙ sym is-t ∙ d)) (is-o ∙ ap (λ d. y ⊕ d) (is-s ∙ sym is-t)) (λ d. n (is-y ∙ ap (product m t) d ∙ K .mul-zero t));
+  }
+
+-- ---- the points over all X
+
+module _ (m : ℕ) (C : Curve) where
+  pub found-none : AllFound m C 0 (replicate 256 0)
+  found-none = record { bytes = length-replicate {A = ℕ} 256 0; at = λ x h. absurd (not-suc-le-zero h) }
+
+  pub found-more : {n y : ℕ} {ys : List ℕ} → n < 256 → AllFound m C n ys → Found m C n y → AllFound m C (n + 1) (set ys n y)
+  found-more {n} {y} {ys} h a f = record { bytes = length-set ys n y ∙ a .bytes; at = λ x k. at x k (ℕ-discrete x n) }
+    where
+      at : (x : ℕ) → x < n + 1 → Dec (x ≡ n) → Found m C x (getD (set ys n y) x 0)
+      at x k (yes e) = rw (e, getD-set-same ys n y 0 (rw (a .bytes) h)) f
+      at x k (no d) = rw (getD-set-other ys n x y 0 d) (a .at x (omega (arith, d)))

@@ -14,7 +14,7 @@ ghost use Rattle.elliptic.specs.Curve.{coefficientsBelow};
 ghost use Rattle.point_count.specs.Singular.{candidate};
 ghost use Rattle.curve.specs.Points.{pointsOutcome};
 ghost use Rattle.curve.specs.Listing.{Rooms, Appends, Listed};
-ghost use Rattle.curve.specs.Roots.{squarePlus, Inverts, lesser, greater};
+ghost use Rattle.curve.specs.Roots.{squarePlus, Inverts, Found, AllFound, lesser, greater};
 use basics::Answer;
 use basics::Refusal;
 use basics::byte::wide;
@@ -197,6 +197,48 @@ fn root(m: u8, powers: &[u8; 1021], logs: &[u16; 512], roots: &[u8; 256], t: u8,
     roots[wide(c)]
 }
 
+// A Y other than 0 over x, or 0 where there is none; unless x is the one whose points are their own opposites.
+fn find_y(m: u8, powers: &[u8; 1021], logs: &[u16; 512], roots: &[u8; 256], c: Curve, x: u8) -> u8
+    requires { ⌜ Tables m (now powers) (now logs) × Inverts (squarePlus m) (size m) (now roots) × (coefficientsBelow (size m) c ≡ true) ⌝ }
+    ensures { λ r. ⌜ Found m c x r ⌝ }
+{
+    let t = trace(m, powers, logs, c, x);
+    let v = right(m, powers, logs, c, x);
+    product(m, powers, logs, t, root(m, powers, logs, roots, t, v))
+}
+
+// The same for all x: the points are appended later, so that no search waits for a branch.
+fn fill_found(
+    m: u8,
+    powers: &[u8; 1021],
+    logs: &[u16; 512],
+    roots: &[u8; 256],
+    c: Curve,
+    found: &mut [u8; 256],
+)
+    requires { ⌜ Tables m (now powers) (now logs) × Inverts (squarePlus m) (size m) (now roots) × (coefficientsBelow (size m) c ≡ true) ⌝ }
+    requires { ⌜ AllFound m c 0 (now found) ⌝ }
+    ensures { λ _. ⌜ AllFound m c (size m) (now (found .exit)) ⌝ }
+{
+    let q = size(m);
+    let mut x = 0;
+    while x < q {
+        let y = find_y(m, powers, logs, roots, c, x as u8);
+        found[x] = y;
+        x += 1;
+    }
+}
+
+fn find_all(m: u8, powers: &[u8; 1021], logs: &[u16; 512], c: Curve) -> [u8; 256]
+    requires { ⌜ Tables m (now powers) (now logs) × (coefficientsBelow (size m) c ≡ true) ⌝ }
+    ensures { λ r. ⌜ AllFound m c (size m) r ⌝ }
+{
+    let roots = roots(m, powers, logs);
+    let mut found = [0u8; 256];
+    fill_found(m, powers, logs, &roots, c, &mut found);
+    found
+}
+
 fn lesser(a: u8, b: u8) -> u8
     ensures { λ r. ⌜ r ≡ lesser a b ⌝ }
 {
@@ -226,31 +268,28 @@ fn append_pair(xs: &mut [u8], ys: &mut [u8], start: usize, x: u8, a: u8, b: u8) 
     append(xs, ys, count, high)
 }
 
-// Appends the points over x, by Y: without a scan, unless x is the one whose points are their own opposites.
+// Appends the points over x, by Y, where y is what was found for x.
 fn append_over(
     m: u8,
     powers: &[u8; 1021],
     logs: &[u16; 512],
-    roots: &[u8; 256],
     c: Curve,
     x: u8,
+    y: u8,
     xs: &mut [u8],
     ys: &mut [u8],
     start: usize,
 ) -> usize
-    requires { ⌜ Tables m (now powers) (now logs) × Inverts (squarePlus m) (size m) (now roots) ⌝ }
-    requires { ⌜ (coefficientsBelow (size m) c ≡ true) × Rooms (now xs) (now ys) ⌝ }
+    requires { ⌜ Tables m (now powers) (now logs) × Found m c x y × Rooms (now xs) (now ys) ⌝ }
     ensures { λ r. ⌜ Appends (filter (onCurve (galois m) c) (table (point x) (size m))) (now (xs .entry)) (now (ys .entry)) start (now (xs .exit)) (now (ys .exit)) r ⌝ }
 {
     let t = trace(m, powers, logs, c, x);
     if t == 0 {
         return append_column(m, powers, logs, c, x, xs, ys, start);
     }
-    let z = root(m, powers, logs, roots, t, right(m, powers, logs, c, x));
-    if z == 0 {
+    if y == 0 {
         return start;
     }
-    let y = product(m, powers, logs, t, z);
     append_pair(xs, ys, start, x, y, add(y, t))
 }
 
@@ -268,11 +307,11 @@ fn fill_points(
     ensures { λ r. ⌜ Listed (affinePoints (galois m) c) (now (xs .entry)) (now (ys .entry)) (now (xs .exit)) (now (ys .exit)) r ⌝ }
 {
     let q = size(m);
-    let roots = roots(m, powers, logs);
+    let found = find_all(m, powers, logs, c);
     let mut count = 0;
     let mut x = 0;
     while x < q {
-        count = append_over(m, powers, logs, &roots, c, x as u8, xs, ys, count);
+        count = append_over(m, powers, logs, c, x as u8, found[x], xs, ys, count);
         x += 1;
     }
     count

@@ -1,7 +1,6 @@
--- A scan, no point, or two: by the table of roots.
+-- A scan, no point, or two, as was found.
 use borrow.Author.Needs.{needs}
 use Rattle.curve.proofs.Listing.{appends-none}
-use Rattle.curve.proofs.Quadratic.{over-none, over-two}
 use Rattle.curve.proofs.append_over.Statement.{statement}
 use Rattle.curve.proofs.append_over.Tie as tie
 
@@ -20,24 +19,12 @@ same-length-2 c = search needs
 returns : tie.Need-returns
 returns c = search needs
 
-right-requires : tie.Need-right-requires
-right-requires c κs = search needs
-
-root-requires : tie.Need-root-requires
-root-requires c κs = search needs
-
 returns-2 : tie.Need-returns-2
 returns-2 c =
-    let r = c .before in
-    let v = r .before in
-    let t = v .before .before in
+    let e = c .before in
+    let t = e .before in
     let s = t .before .before .before in
-    rw (← over-none (s .pre .0 .0 .field) (s .args .c) (s .pre .1 .0) (s .args .x) (s .pre .0 .1)
-    (t .trace .ensures) (v .right .ensures) (v .before .if1 .left) (r .root .ensures) (c .if2 .taken))
-    (appends-none _ _ _)
-
-product-requires : tie.Need-product-requires
-product-requires c κs = search needs
+    rw (s .pre .1 .no-point (t .trace .ensures) (e .if1 .left) (c .if2 .taken)) (appends-none _ _ _)
 
 add-requires : tie.Need-add-requires
 add-requires c κs = search needs
@@ -54,14 +41,11 @@ same-length-4 c = search needs
 returns-3 : tie.Need-returns-3
 returns-3 c =
     let p = c .before .before .before .before in
-    let y = p .before .before .before .before in
-    let r = y .before .before in
-    let v = r .before in
-    let t = v .before .before in
+    let n = p .before .before .before .before in
+    let e = n .before in
+    let t = e .before in
     let s = t .before .before .before in
-    rw (← over-two (s .pre .0 .0 .field) (s .args .c) (s .pre .1 .0) (s .args .x) (s .pre .0 .1)
-    (t .trace .ensures) (v .right .ensures) (v .before .if1 .left) (r .root .ensures) (y .product .ensures) (p .before .add .ensures) (y .before .if2 .left))
-    (p .append-pair .ensures)
+    rw (s .pre .1 .two-points (t .trace .ensures) (e .if1 .left) (p .before .add .ensures) (n .if2 .left)) (p .append-pair .ensures)
 
 pub append-over-spec : {M : Type 1} → statement M
 append-over-spec =
@@ -72,10 +56,7 @@ append-over-spec =
     same-length
     same-length-2
     returns
-    right-requires
-    root-requires
     returns-2
-    product-requires
     add-requires
     append-pair-requires
     same-length-3

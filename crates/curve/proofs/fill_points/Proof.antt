@@ -13,26 +13,31 @@ use Rattle.curve.proofs.fill_points.Statement.{statement}
 use Rattle.curve.proofs.fill_points.Tie as tie
 
 abbrev Inv-loop : tie.InvT-loop
-Inv-loop m powers logs c xs₀ ys₀ q roots count₀ x₀ xs ys count x =
+Inv-loop m powers logs c xs₀ ys₀ q found count₀ x₀ xs ys count x =
     (x ≤ q) × Rooms xs ys × Listed (filter (onCurve (galois m) c) (columns (size m) x)) xs₀ ys₀ xs ys count
 
 abbrev μ-loop : tie.MeasureT-loop
-μ-loop m powers logs c xs₀ ys₀ q roots count₀ x₀ xs ys count x = q - x
+μ-loop m powers logs c xs₀ ys₀ q found count₀ x₀ xs ys count x = q - x
 
 size-requires : tie.Need-size-requires Inv-loop μ-loop
 size-requires c κs = search needs
 
-roots-requires : tie.Need-roots-requires Inv-loop μ-loop
-roots-requires c κs = search needs
+find-all-requires : tie.Need-find-all-requires Inv-loop μ-loop
+find-all-requires c κs = search needs
 
 loop-holds : tie.Need-loop-holds Inv-loop μ-loop
 loop-holds c = (search needs, search needs, listed-none _ _)
 
 cast-append-over : tie.Need-cast-append-over Inv-loop μ-loop
-cast-append-over c = omega (arith, size-le (c .before .before .before .before .before .before .before .pre .0 .field))
+cast-append-over c = omega (arith, size-le (c .before .before .before .before .before .before .pre .0 .field))
+
+array-read-append-over : tie.Need-array-read-append-over Inv-loop μ-loop
+array-read-append-over c = omega (arith, size-le (c .before .before .before .before .before .before .pre .0 .field))
 
 append-over-requires : tie.Need-append-over-requires Inv-loop μ-loop
-append-over-requires c κs = search needs
+append-over-requires c κs =
+    let l = c .before .before .before in
+    (search needs, l .before .find-all .ensures .at (l .loop .x) (omega arith), search needs)
 
 add-x : tie.Need-add-x Inv-loop μ-loop
 add-x c = search needs
@@ -43,7 +48,7 @@ loop-less c = search needs
 loop-again : tie.Need-loop-again Inv-loop μ-loop
 loop-again c =
     let t = c .before .before .before .before in
-    let a = t .before .before .before .before .before in
+    let a = t .before .before .before .before in
     let s = a .before .before .before .before .before in
     let k = t .append-over .kept .1 .1 .1 .1 .1 .1 in (
       omega arith,
@@ -72,9 +77,10 @@ fill-points-spec =
     Inv-loop
     μ-loop
     size-requires
-    roots-requires
+    find-all-requires
     loop-holds
     cast-append-over
+    array-read-append-over
     append-over-requires
     add-x
     loop-less
