@@ -21,7 +21,7 @@ use Rattle.field.proofs.Galois.{galois-field}
 use Rattle.elliptic.specs.declared.Curve.{Curve}
 use Rattle.elliptic.specs.Curve.{point, right, coefficientsBelow}
 use Rattle.point_count.proofs.Singular.{g3-lt, right-lt}
-use Rattle.curve.specs.Roots.{squarePlus, Inverts, lesser, greater, pointsOver, Found, AllFound}
+use Rattle.curve.specs.Roots.{squarePlus, Inverts, lesser, pointsOver, Found, AllFound}
 use Rattle.curve.proofs.Equation.{solution, column-as}
 
 -- ---- the table, whatever function it inverts
@@ -78,15 +78,6 @@ module _ {A : Type 0} (p : A → Bool) (f : ℕ → A) where
       let between = filter-skip (a + 1) b (omega arith) (λ i l m. no-other i (omega arith) (λ e. omega arith) (λ e. omega arith)) in
       let last = filter-skip (b + 1) n (omega arith) (λ i l m. no-other i m (λ e. omega arith) (λ e. omega arith)) in
       last ∙ filter-table-more p f b eb ∙ ap (λ l. l ++ (f b ∷ [])) (between ∙ filter-table-more p f a ea ∙ ap (λ l. l ++ (f a ∷ [])) first)
-
-  -- the lesser first
-  filter-pair : (n a b : ℕ) → (a ≡ b → ⊥) → a < n → b < n → p (f a) ≡ true → p (f b) ≡ true → ((i : ℕ) → i < n → (i ≡ a → ⊥) → (i ≡ b → ⊥) → p (f i) ≡ false) → filter p (table f n) ≡ f (lesser a b) ∷ f (greater a b) ∷ []
-  unfolding lesser greater
-  filter-pair n a b d ha hb ea eb no-other =
-      elim (decLt a b) [
-        | yes l ↦ rw (lt-ltb a b l) (filter-two n a b l hb ea eb no-other)
-        | no l ↦ (let g : b < a = omega (arith, d) in rw (le-ltb a b (omega arith)) (filter-two n b a g ha eb ea (λ i h x y. no-other i h y x)))
-      ]
 
 -- ---- the solutions
 
@@ -158,20 +149,42 @@ module _ {m : ℕ} (h : IsField m) (C : Curve) (below : coefficientsBelow (size 
       unsolved : (y : ℕ) → product m y (y ⊕ t) ≡ v → ⊥
       unsolved y s = entered K i (product m y (inverse m t)) (K .mul-lt _ _) (ap (λ c. getD r c 0) (to-root K t v t-lt nt v-lt y s) ∙ sym is-z ∙ e)
 
-  two : {o : ℕ} → (t ≡ 0 → ⊥) → o ≡ y ⊕ t → (z ≡ 0 → ⊥) → pointsOver m C x ≡ point x (lesser y o) ∷ point x (greater y o) ∷ []
-  two {o} nt is-o n =
-      let o-lt : o < size m = rw is-o (K .add-lt y t y-lt t-lt) in
-      over ∙ filter-pair (solution m t v) (point x) (size m) y o apart y-lt o-lt (eq-eqb _ _ solves) (eq-eqb _ _ opposite-solves)
-      (λ w l a b. ne-eqb _ _ (λ s. no-third K t w y t-lt l y-lt (s ∙ sym solves) a (λ e. b (e ∙ sym is-o))))
-    where
-      solves : product m y (y ⊕ t) ≡ v
-      solves = rw is-y (from-root K t v t-lt nt v-lt z (rw is-z (i .back _ (λ e. n (is-z ∙ e)) .1)))
+  module _ (nt : t ≡ 0 → ⊥) (n : z ≡ 0 → ⊥) where
+    solves : product m y (y ⊕ t) ≡ v
+    solves = rw is-y (from-root K t v t-lt nt v-lt z (rw is-z (i .back _ (λ e. n (is-z ∙ e)) .1)))
 
-      opposite-solves : product m o (o ⊕ t) ≡ v
-      opposite-solves = rw (is-o, ⊕-assoc y t t, ⊕-self t, ⊕-zero y) (K .mul-comm (y ⊕ t) y ∙ solves)
+    -- the opposite's Y
+    o : ℕ
+    o = y ⊕ t
 
-      apart : y ≡ o → ⊥
-      apart e = nt (sym (⊕-cancel y t) ∙ ap (λ s. y ⊕ s) (sym (e ∙ is-o)) ∙ ⊕-self y)
+    o-lt : o < size m
+    unfolding o
+    o-lt = K .add-lt y t y-lt t-lt
+
+    back : o ⊕ t ≡ y
+    unfolding o
+    back = rw (⊕-assoc y t t, ⊕-self t) (⊕-zero y)
+
+    o-solves : product m o (o ⊕ t) ≡ v
+    unfolding o
+    o-solves = rw back (K .mul-comm (y ⊕ t) y ∙ solves)
+
+    apart : y ≡ o → ⊥
+    unfolding o
+    apart e = nt (sym (⊕-cancel y t) ∙ ap (λ s. y ⊕ s) (sym e) ∙ ⊕-self y)
+
+    no-other : (w : ℕ) → w < size m → (w ≡ y → ⊥) → (w ≡ o → ⊥) → solution m t v (point x w) ≡ false
+    unfolding o
+    no-other w l a b = ne-eqb _ _ (λ s. no-third K t w y t-lt l y-lt (s ∙ sym solves) a b)
+
+    two : pointsOver m C x ≡ point x (lesser y (y ⊕ t)) ∷ point x (lesser y (y ⊕ t) ⊕ t) ∷ []
+    unfolding o lesser
+    two =
+        over ∙ elim (decLt y o) [
+          | yes l ↦ rw (lt-ltb y o l) (filter-two (solution m t v) (point x) (size m) y o l o-lt (eq-eqb _ _ solves) (eq-eqb _ _ o-solves) no-other)
+          | no l ↦ (let g : o < y = omega (arith, apart) in
+              rw (le-ltb y o (omega arith), back) (filter-two (solution m t v) (point x) (size m) o y g y-lt (eq-eqb _ _ o-solves) (eq-eqb _ _ solves) (λ w h a b. no-other w h b a)))
+        ]
 
   -- y is 0 only where z is
   no-root : (t ≡ 0 → ⊥) → y ≡ 0 → z ≡ 0
@@ -184,8 +197,7 @@ module _ {m : ℕ} (h : IsField m) (C : Curve) (below : coefficientsBelow (size 
   pub found : Found m C x y
   found = record {
     no-point = λ {t = s} is-s ns e. let nt : t ≡ 0 → ⊥ = λ d. ns (is-s ∙ sym is-t ∙ d) in none nt (no-root nt e);
-    two-points = λ {t = s} {o} is-s ns is-o n.
-        two (λ d. ns (is-s ∙ sym is-t ∙ d)) (is-o ∙ ap (λ d. y ⊕ d) (is-s ∙ sym is-t)) (λ d. n (is-y ∙ ap (product m t) d ∙ K .mul-zero t));
+    two-points = λ {t = s} is-s ns e. rw (is-s ∙ sym is-t) (two (λ d. ns (is-s ∙ sym is-t ∙ d)) (λ d. e (is-y ∙ ap (product m t) d ∙ K .mul-zero t)));
   }
 
 -- ---- the points over all X

@@ -25,16 +25,13 @@ pub record Inverts (f : ℕ → ℕ) (n : ℕ) (r : List ℕ) : Type 0 where
 unfoldable pub lesser : ℕ → ℕ → ℕ
 lesser a b = cond (ltb a b) a b
 
-unfoldable pub greater : ℕ → ℕ → ℕ
-greater a b = cond (ltb a b) b a
-
 abbrev pub pointsOver : ℕ → Curve → ℕ → List Point
 pointsOver m C x = filter (onCurve (galois m) C) (table (point x) (size m))
 
 -- unless t = g1·x + g3 is 0: y is 0 and there is no point over x, or there are two, with y and y + t
 pub record Found (m : ℕ) (C : Curve) (x y : ℕ) : Type 0 where
   pub no-point : {t : ℕ} → t ≡ product m (C .g1) x ⊕ C .g3 → (t ≡ 0 → ⊥) → y ≡ 0 → pointsOver m C x ≡ []
-  pub two-points : {t o : ℕ} → t ≡ product m (C .g1) x ⊕ C .g3 → (t ≡ 0 → ⊥) → o ≡ y ⊕ t → (y ≡ 0 → ⊥) → pointsOver m C x ≡ point x (lesser y o) ∷ point x (greater y o) ∷ []
+  pub two-points : {t : ℕ} → t ≡ product m (C .g1) x ⊕ C .g3 → (t ≡ 0 → ⊥) → (y ≡ 0 → ⊥) → pointsOver m C x ≡ point x (lesser y (y ⊕ t)) ∷ point x (lesser y (y ⊕ t) ⊕ t) ∷ []
 
 -- so for each x below n
 pub record AllFound (m : ℕ) (C : Curve) (n : ℕ) (ys : List ℕ) : Type 0 where

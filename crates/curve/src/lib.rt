@@ -14,7 +14,7 @@ ghost use Rattle.elliptic.specs.Curve.{coefficientsBelow};
 ghost use Rattle.point_count.specs.Singular.{candidate};
 ghost use Rattle.curve.specs.Points.{pointsOutcome};
 ghost use Rattle.curve.specs.Listing.{Rooms, Appends, Listed};
-ghost use Rattle.curve.specs.Roots.{squarePlus, Inverts, Found, AllFound, lesser, greater};
+ghost use Rattle.curve.specs.Roots.{squarePlus, Inverts, Found, AllFound, lesser};
 use basics::Answer;
 use basics::Refusal;
 use basics::byte::wide;
@@ -245,27 +245,15 @@ fn lesser(a: u8, b: u8) -> u8
     if a < b { a } else { b }
 }
 
-fn greater(a: u8, b: u8) -> u8
-    ensures { λ r. ⌜ r ≡ greater a b ⌝ }
-{
-    if a < b { b } else { a }
-}
-
-// Appends the two points over x with these Y, by Y.
-fn append_pair(xs: &mut [u8], ys: &mut [u8], start: usize, x: u8, a: u8, b: u8) -> usize
+// Appends the two points over x with y and y + t, by Y.
+fn append_pair(xs: &mut [u8], ys: &mut [u8], start: usize, x: u8, y: u8, t: u8) -> usize
     requires { ⌜ Rooms (now xs) (now ys) ⌝ }
-    ensures { λ r. ⌜ Appends (point x (lesser a b) ∷ point x (greater a b) ∷ []) (now (xs .entry)) (now (ys .entry)) start (now (xs .exit)) (now (ys .exit)) r ⌝ }
+    ensures { λ r. ⌜ Appends (point x (lesser y (y ⊕ t)) ∷ point x (lesser y (y ⊕ t) ⊕ t) ∷ []) (now (xs .entry)) (now (ys .entry)) start (now (xs .exit)) (now (ys .exit)) r ⌝ }
 {
-    let low = Point {
-        x: x,
-        y: lesser(a, b),
-    };
-    let high = Point {
-        x: x,
-        y: greater(a, b),
-    };
-    let count = append(xs, ys, start, low);
-    append(xs, ys, count, high)
+    let low = lesser(y, add(y, t));
+    let high = add(low, t);
+    let count = append(xs, ys, start, Point { x: x, y: low });
+    append(xs, ys, count, Point { x: x, y: high })
 }
 
 // Appends the points over x, by Y, where y is what was found for x.
@@ -290,7 +278,7 @@ fn append_over(
     if y == 0 {
         return start;
     }
-    append_pair(xs, ys, start, x, y, add(y, t))
+    append_pair(xs, ys, start, x, y, t)
 }
 
 // Lists all points, by X, then Y.

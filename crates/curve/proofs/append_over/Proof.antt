@@ -26,9 +26,6 @@ returns-2 c =
     let s = t .before .before .before in
     rw (s .pre .1 .no-point (t .trace .ensures) (e .if1 .left) (c .if2 .taken)) (appends-none _ _ _)
 
-add-requires : tie.Need-add-requires
-add-requires c κs = search needs
-
 append-pair-requires : tie.Need-append-pair-requires
 append-pair-requires c κs = search needs
 
@@ -41,11 +38,11 @@ same-length-4 c = search needs
 returns-3 : tie.Need-returns-3
 returns-3 c =
     let p = c .before .before .before .before in
-    let n = p .before .before .before .before in
+    let n = p .before .before .before in
     let e = n .before in
     let t = e .before in
     let s = t .before .before .before in
-    rw (s .pre .1 .two-points (t .trace .ensures) (e .if1 .left) (p .before .add .ensures) (n .if2 .left)) (p .append-pair .ensures)
+    rw (s .pre .1 .two-points (t .trace .ensures) (e .if1 .left) (n .if2 .left)) (p .append-pair .ensures)
 
 pub append-over-spec : {M : Type 1} → statement M
 append-over-spec =
@@ -57,7 +54,6 @@ append-over-spec =
     same-length-2
     returns
     returns-2
-    add-requires
     append-pair-requires
     same-length-3
     same-length-4

@@ -1,14 +1,20 @@
 -- One point after the other.
 use borrow.Author.Needs.{needs}
+use mathlib.Core.Path.{_≡_, ap, _∙_}
+use Rattle.field.specs.Sum.{_⊕_}
+use Rattle.curve.specs.Roots.{lesser}
 use Rattle.curve.proofs.Listing.{appends-both}
 use Rattle.curve.proofs.append_pair.Statement.{statement}
 use Rattle.curve.proofs.append_pair.Tie as tie
 
+add-requires : tie.Need-add-requires
+add-requires c κs = search needs
+
 lesser-requires : tie.Need-lesser-requires
 lesser-requires c κs = search needs
 
-greater-requires : tie.Need-greater-requires
-greater-requires c κs = search needs
+add-requires-2 : tie.Need-add-requires-2
+add-requires-2 c κs = search needs
 
 append-requires : tie.Need-append-requires
 append-requires c κs = search needs
@@ -26,15 +32,19 @@ returns : tie.Need-returns
 returns c =
     let e = c .before .before .before .before in
     let f = e .before .before .before .before .before .before .before in
-    let g = f .before .before .before in
-    rw (← g .before .lesser .ensures, ← g .greater .ensures) (appends-both (f .append .ensures) (e .append2 .ensures))
+    let h = f .before .before .before in
+    let l = h .before in
+    let s = l .before .before .before .before in
+    let low : l .lesser .result ≡ lesser (s .args .y) (s .args .y ⊕ s .args .t) = l .lesser .ensures ∙ ap (lesser (s .args .y)) (l .before .add .ensures) in
+    rw (← low, ← h .add2 .ensures) (appends-both (f .append .ensures) (e .append2 .ensures))
 
 pub append-pair-spec : {M : Type 1} → statement M
 append-pair-spec =
     tie.close
     (tie.spec
+    add-requires
     lesser-requires
-    greater-requires
+    add-requires-2
     append-requires
     append-requires-2
     same-length
