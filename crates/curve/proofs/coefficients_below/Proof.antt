@@ -6,7 +6,6 @@ use native.Mathlib.Omega.{arith}
 use borrow.Author.Tests.{lt-ltb, le-ltb}
 use lib.Dec.{ltb}
 use Rattle.field.specs.Galois.{size}
-use Rattle.elliptic.specs.Curve.{coefficientsBelow}
 use Rattle.curve.proofs.coefficients_below.Statement.{statement}
 use Rattle.curve.proofs.coefficients_below.Tie as tie
 

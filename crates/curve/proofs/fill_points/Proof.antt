@@ -13,23 +13,31 @@ use Rattle.curve.proofs.fill_points.Statement.{statement}
 use Rattle.curve.proofs.fill_points.Tie as tie
 
 abbrev Inv-loop : tie.InvT-loop
-Inv-loop m powers logs c xs₀ ys₀ q count₀ x₀ xs ys count x =
+Inv-loop m powers logs c xs₀ ys₀ q found count₀ x₀ xs ys count x =
     (x ≤ q) × Rooms xs ys × Listed (filter (onCurve (galois m) c) (columns (size m) x)) xs₀ ys₀ xs ys count
 
 abbrev μ-loop : tie.MeasureT-loop
-μ-loop m powers logs c xs₀ ys₀ q count₀ x₀ xs ys count x = q - x
+μ-loop m powers logs c xs₀ ys₀ q found count₀ x₀ xs ys count x = q - x
 
 size-requires : tie.Need-size-requires Inv-loop μ-loop
 size-requires c κs = search needs
 
+find-all-requires : tie.Need-find-all-requires Inv-loop μ-loop
+find-all-requires c κs = search needs
+
 loop-holds : tie.Need-loop-holds Inv-loop μ-loop
 loop-holds c = (search needs, search needs, listed-none _ _)
 
-cast-append-column : tie.Need-cast-append-column Inv-loop μ-loop
-cast-append-column c = omega (arith, size-le (c .before .before .before .before .before .pre .0 .field))
+cast-append-over : tie.Need-cast-append-over Inv-loop μ-loop
+cast-append-over c = omega (arith, size-le (c .before .before .before .before .before .before .pre .0 .field))
 
-append-column-requires : tie.Need-append-column-requires Inv-loop μ-loop
-append-column-requires c κs = search needs
+array-read-append-over : tie.Need-array-read-append-over Inv-loop μ-loop
+array-read-append-over c = omega (arith, size-le (c .before .before .before .before .before .before .pre .0 .field))
+
+append-over-requires : tie.Need-append-over-requires Inv-loop μ-loop
+append-over-requires c κs =
+    let l = c .before .before .before in
+    (search needs, l .before .find-all .ensures .at (l .loop .x) (omega arith), search needs)
 
 add-x : tie.Need-add-x Inv-loop μ-loop
 add-x c = search needs
@@ -41,11 +49,11 @@ loop-again : tie.Need-loop-again Inv-loop μ-loop
 loop-again c =
     let t = c .before .before .before .before in
     let a = t .before .before .before .before in
-    let s = a .before .before .before .before in
-    let k = t .append-column .kept .1 .1 .1 .1 .1 in (
+    let s = a .before .before .before .before .before in
+    let k = t .append-over .kept .1 .1 .1 .1 .1 .1 in (
       omega arith,
       (k .0 ∙ a .loop .inv .1 .0, k .1 .0 ∙ a .loop .inv .1 .1),
-      column-turn (onCurve (galois (s .args .m)) (s .args .c)) (size (s .args .m)) (a .loop .x) (s .pre .1) (a .loop .inv .2) (t .append-column .ensures),
+      column-turn (onCurve (galois (s .args .m)) (s .args .c)) (size (s .args .m)) (a .loop .x) (s .pre .1 .1) (a .loop .inv .2) (t .append-over .ensures),
     )
 
 same-length : tie.Need-same-length Inv-loop μ-loop
@@ -58,7 +66,7 @@ returns : tie.Need-returns Inv-loop μ-loop
 unfolding affinePoints
 returns c =
     let a = c .before in
-    let s = a .before .before .before .before in
+    let s = a .before .before .before .before .before in
     let whole : a .loop .x ≡ size (s .args .m) = omega arith in
     listed-as (a .loop .inv .2) (ap (λ n. filter (onCurve (galois (s .args .m)) (s .args .c)) (columns (size (s .args .m)) n)) whole)
 
@@ -69,9 +77,11 @@ fill-points-spec =
     Inv-loop
     μ-loop
     size-requires
+    find-all-requires
     loop-holds
-    cast-append-column
-    append-column-requires
+    cast-append-over
+    array-read-append-over
+    append-over-requires
     add-x
     loop-less
     loop-again

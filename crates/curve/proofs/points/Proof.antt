@@ -88,7 +88,10 @@ returns-5 c = let s = c .before .before .before .before .before .before .before 
     accepts (c .before .before .before) (pass _ (smooth-ok (c .before .before)) (refuse _ (simp (eq-eqb (length (s .xs .now)) room (c .before .if4 .left)) (ne-eqb (length (s .ys .now)) room (c .if5 .taken)))))
 
 fill-points-requires : tie.Need-fill-points-requires
-fill-points-requires c κs = let e = c .before .before .before .before in (tables (e .before .before .before .before .before .before), (e .before .if4 .left, e .if5 .left))
+fill-points-requires c κs =
+    let e = c .before .before .before .before in
+    let t = e .before .before .before .before .before .before in
+    (tables t, (below-ok (t .before .before), (e .before .if4 .left, e .if5 .left)))
 
 same-length : tie.Need-same-length
 same-length c = search needs
