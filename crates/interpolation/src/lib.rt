@@ -1,3 +1,3 @@
-// Interpolation on a curve over a list of places, and what is written of it: coefficients and values.
+// Interpolation on a curve over a list of places: what is written of it, and whether it takes the symbols.
 pub mod interpolate;
 pub mod write;

@@ -1,4 +1,4 @@
-// What the operations write: the coefficients of a function, and its values.
+// What the operations write of a function, its coefficients, and whether its values are the symbols.
 use basics::MessageIndex;
 use engine::pair::Sizes;
 use engine::pair::extend;
@@ -12,12 +12,12 @@ ghost use mathlib.Core.Bool.{cond};
 ghost use mathlib.Core.List.{map};
 ghost use Prim.Native.Nat.{_≤_};
 ghost use lib.ListN.{length, take};
-ghost use Rattle.basics.specs.Lists.{same, table};
+ghost use Rattle.basics.specs.Lists.{same};
 ghost use Rattle.field.specs.Galois.{galois};
 ghost use Rattle.field.specs.Tables.{Tables};
 ghost use Rattle.elliptic.specs.Pair.{evaluate, padded};
 ghost use Rattle.engine.specs.Arrays.{Room};
-ghost use Rattle.engine.specs.Places.{valueAt, pointsOf, Within};
+ghost use Rattle.engine.specs.Places.{pointsOf, Within};
 
 // The function that is the first n coefficients of f, with zeros to the length of out.
 pub fn write_function(f: &[u8], n: usize, out: &mut [u8])
@@ -39,27 +39,6 @@ pub fn write_low(l: &[u8], u: &[u8], n: Sizes, out: &mut [u8])
         write_function(u, n.low, out);
     } else {
         write_function(l, n.low, out);
-    }
-}
-
-// The values of f at the points with coordinates xs and ys.
-pub fn write_word(
-    m: u8,
-    powers: &[u8; 1021],
-    logs: &[u16; 512],
-    xs: &[u8],
-    ys: &[u8],
-    f: &[u8],
-    out: &mut [u8],
-)
-    requires { ⌜ Tables m (now powers) (now logs) ⌝ }
-    requires { ⌜ (length (now out) ≤ length (now xs)) × (length (now out) ≤ length (now ys)) ⌝ }
-    ensures { λ _. ⌜ now (out .exit) ≡ table (valueAt m (now (xs .entry)) (now (ys .entry)) (now (f .entry))) (length (now (out .entry))) ⌝ }
-{
-    let mut i = 0;
-    while i < out.len() {
-        out[i] = value(m, powers, logs, xs[i], ys[i], f);
-        i += 1;
     }
 }
 

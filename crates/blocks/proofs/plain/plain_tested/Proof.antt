@@ -1,21 +1,29 @@
 -- Test after test, and then the callee writes the values.
 use mathlib.Core.Path.{_≡_, sym, _∙_, ap}
 use native.Mathlib.Nat.{le-of-eq}
+use native.Mathlib.Omega.{arith}
 use borrow.Author.Tests.{eq-eqb, ne-eqb, not-true, not-false}
+use Rattle.basics.specs.Lists.{all}
 use Rattle.basics.proofs.Outcomes.{pass, refuse, accept}
 use Rattle.codewords.specs.Code.{codeOf}
 use Rattle.codewords.specs.Codewords.{symbols}
 use Rattle.codewords.proofs.Accepted.{accepted-done}
 use Rattle.code.specs.Lists.{isBelow}
-use Rattle.basics.specs.Lists.{all}
 use Rattle.blocks.proofs.Words.{plain-word}
 use borrow.Author.Needs.{needs}
 use Rattle.blocks.proofs.plain.plain_tested.Statement.{statement}
 use Rattle.blocks.proofs.plain.plain_tested.Tie as tie
 
-below-is : (c : tie.After-all-below) → c .all-below .result ≡ symbols (codeOf (c .before .before .before .before .before .before .before .before .before .args .code) (c .before .before .before .before .before .before .before .before .before .args .xs .now) (c .before .before .before .before .before .before .before .before .before .args .ys .now)) (c .before .before .before .before .before .before .before .before .before .args .coefficients .now)
+-- the moments of the run, each seen from a later one
+abbrev entry : tie.Else2 → tie.Start
+entry c = c .before .before .before .before .before .before .before
+
+abbrev lengths-tested : tie.After-all-below → tie.Else2
+lengths-tested c = c .before .before
+
+below-is : (c : tie.After-all-below) → let a = entry (lengths-tested c) .args in c .all-below .result ≡ symbols (codeOf (a .code) (a .xs .now) (a .ys .now)) (a .coefficients .now)
 unfolding symbols
-below-is c = c .all-below .ensures ∙ ap (λ q. all (isBelow q) (c .before .before .before .before .before .before .before .before .before .args .coefficients .now)) (c .before .size .ensures)
+below-is c = c .all-below .ensures ∙ ap (λ q. all (isBelow q) (entry (lengths-tested c) .args .coefficients .now)) (c .before .size .ensures)
 
 returns : tie.Need-returns
 returns c = refuse _ (ne-eqb _ _ (c .if1 .taken))
@@ -24,7 +32,7 @@ returns-2 : tie.Need-returns-2
 returns-2 c = pass _ (eq-eqb _ _ (c .before .if1 .left)) (refuse _ (ne-eqb _ _ (c .if2 .taken)))
 
 size-requires : tie.Need-size-requires
-size-requires c κs = accepted-done _ (c .before .before .before .before .before .before .before .pre) .field
+size-requires c κs = entry c .pre .0 .field
 
 all-below-requires : tie.Need-all-below-requires
 all-below-requires c κs = search needs
@@ -32,24 +40,16 @@ all-below-requires c κs = search needs
 returns-3 : tie.Need-returns-3
 unfolding symbols
 returns-3 c =
-    let e = c .before .before .before in
+    let e = lengths-tested (c .before) in
     pass _ (eq-eqb _ _ (e .before .if1 .left)) (pass _ (eq-eqb _ _ (e .if2 .left))
     (refuse _ (sym (below-is (c .before)) ∙ not-true _ (c .if3 .taken))))
 
-powers-requires : tie.Need-powers-requires
-powers-requires c κs = accepted-done _ (c .before .before .before .before .before .before .before .before .before .before .pre) .field
-
-logarithms-requires : tie.Need-logarithms-requires
-logarithms-requires c κs = accepted-done _ (c .before .before .before .before .before .before .before .before .before .before .before .before .pre) .field
-
 write-word-requires : tie.Need-write-word-requires
 write-word-requires c κs =
-    let s = c .before .before .before .before .before .before .before .before .before .before .before .before .before .before .before in
-    let a = accepted-done _ (s .pre) in
-    let e = c .before .before .before .before .before .before .before .before in (
-      record { field = a .field; is-powers = c .before .before .before .before .powers .ensures; is-logs = c .before .before .logarithms .ensures },
-      (le-of-eq (e .if2 .left), le-of-eq (e .if2 .left ∙ a .lengths)),
-    )
+    let e = lengths-tested (c .before .before) in
+    let pre = entry e .pre in
+    let a = accepted-done _ (pre .1) in
+    (pre .0, (le-of-eq (e .if2 .left), le-of-eq (e .if2 .left ∙ a .lengths), a .n-most, omega (arith, a .k-least, e .before .if1 .left)))
 
 same-length : tie.Need-same-length
 same-length c = search needs
@@ -58,12 +58,12 @@ returns-4 : tie.Need-returns-4
 unfolding symbols
 returns-4 c =
     let w = c .before .before in
-    let t = w .before .before .before .before .before .before in
-    let e = t .before .before .before in
-    let s = e .before .before .before .before .before .before .before in
+    let t = w .before .before in
+    let e = lengths-tested (t .before) in
+    let s = entry e in
     let ok = sym (below-is (t .before)) ∙ not-false _ (t .if3 .left) in
     pass _ (eq-eqb _ _ (e .before .if1 .left)) (pass _ (eq-eqb _ _ (e .if2 .left)) (pass _ ok
-    (accept (w .write-word .ensures ∙ plain-word _ (s .pre) (s .args .coefficients .now) (e .before .if1 .left) ok (e .if2 .left)))))
+    (accept (w .write-word .ensures ∙ plain-word _ (s .pre .1) (s .args .coefficients .now) (e .before .if1 .left) ok (e .if2 .left)))))
 
 pub plain-tested-spec : {M : Type 1} → statement M
 plain-tested-spec =
@@ -74,8 +74,6 @@ plain-tested-spec =
     size-requires
     all-below-requires
     returns-3
-    powers-requires
-    logarithms-requires
     write-word-requires
     same-length
     returns-4)

@@ -1,0 +1,2 @@
+-- What is kept of a function over each first coordinate.
+pub mod Parts

@@ -1,0 +1,4 @@
+// The values of a function at many points.
+pub mod distinct;
+pub mod lanes;
+pub mod word;
