@@ -1,6 +1,6 @@
 // The rows of all points but the last, after which it is known whether they are dependent.
-use arrangement::arrange::fill_ones;
 use crate::factors::rows_turn;
+use arrangement::arrange::fill_ones;
 use basics::MessageIndex;
 use engine::pair::Sizes;
 use engine::pair::first_sizes;

@@ -1,10 +1,10 @@
 // The rows of Matrix: the points with the chosen ones first, the factors of the rows, and then the symbols of each row, in its own part of the buffer.
+use arrangement::arrange::arrange;
+use arrangement::arrange::mark;
 use basics::MessageIndex;
 use codewords::Parameters;
 use engine::pair::Sizes;
 use engine::places::chosen_place;
-use arrangement::arrange::arrange;
-use arrangement::arrange::mark;
 use generator::entries::fill_row;
 use generator::run::run_rows;
 use solving::work::clear_room;
