@@ -158,6 +158,9 @@ module _ {J free from out : List ℕ} (h : Arrangeable J free from out) where
   mark-at : (t : ℕ) → t < length from → freeAt J t ≡ getD free t 0
   mark-at t l = sym (ap (λ f. getD f t 0) (h .frees) ∙ getD-table (freeAt J) (length from) t 0 l)
 
+  pub mark-small : (t : ℕ) → t < length from → getD free t 0 ≤ 1
+  mark-small t l = ⊎-elim (λ e. omega (arith, mark-at t l, e)) (λ e. omega (arith, mark-at t l, e)) (free-two J t)
+
   pub places-fit : length J ≤ length out
   places-fit = omega (arith, rank-all (length from) J (h .places) (h .apart), h .room)
 
@@ -189,45 +192,37 @@ pub record ArrangedTo (from J out : List ℕ) (t s : ℕ) : Type 0 where
 pub arranged-none : (from J out : List ℕ) → length out ≡ length from → Gathered from J out → ArrangedTo from J out 0 (length J)
 arranged-none from J out e g = record { size = e; chosen = g; upto = omega arith; next = omega arith; rest = λ i l. absurd (omega arith) }
 
-module _ {J free from old out : List ℕ} {t s : ℕ} (h : Arrangeable J free from old) (a : ArrangedTo from J out t s) (l : t < length from) where
-  -- the point with index t is at a place
-  pub arranged-taken : (getD free t 0 ≡ 1 → ⊥) → ArrangedTo from J out (t + 1) s
-  arranged-taken n =
+module _ {J free from old out : List ℕ} {t s : ℕ} (h : Arrangeable J free from old) (a : ArrangedTo from J out t s) where
+  -- while there is room, not all points have been seen
+  pub point-left : s < length from → t < length from
+  point-left r = elim (ℕ-discrete t (length from)) [
+    | yes e ↦ omega (arith, ap (rank (freeAt J)) e, rank-all (length from) J (h .places) (h .apart), a .next)
+    | no n ↦ omega (arith, a .upto)
+  ]
+
+  -- the point with index t is put there, whether it is free or not
+  pub arranged-turn : s < length from → {f : ℕ} → f ≡ getD free t 0 → ArrangedTo from J (set out s (getD from t 0)) (t + 1) (s + f)
+  arranged-turn r {f} e =
       record {
-        size = a .size;
-        chosen = a .chosen;
-        upto = omega arith;
-        next = rw (add-one t) (omega (arith, a .next, none));
-        rest = λ i k f. rest i k f (ℕ-discrete i t);
+        size = length-set out s (getD from t 0) ∙ a .size;
+        chosen = λ j k. getD-set-other out s j (getD from t 0) 0 (λ q. omega (arith, a .next)) ∙ a .chosen j k;
+        upto = omega (arith, point-left r);
+        next = rw (add-one t) (omega (arith, a .next, mark-at h t (point-left r), e));
+        rest = λ i k g. rest i k g (ℕ-discrete i t);
       }
     where
-      none : freeAt J t ≡ 0
-      none = ⊎-elim (λ e. e) (λ e. absurd (n (sym (mark-at h t l) ∙ e))) (free-two J t)
+      rest : (i : ℕ) → i < t + 1 → freeAt J i ≡ 1 → Dec (i ≡ t) → getD (set out s (getD from t 0)) (length J + rank (freeAt J) i) 0 ≡ getD from i 0
+      rest i k g (yes q) = rw (q, ← a .next) (getD-set-same out s (getD from t 0) 0 (rw (a .size) r))
+      rest i k g (no q) =
+          getD-set-other out s (length J + rank (freeAt J) i) (getD from t 0) 0 (λ d. omega (arith, a .next, rank-lt J i t (omega arith) g))
+          ∙ a .rest i (omega arith) g
 
-      rest : (i : ℕ) → i < t + 1 → freeAt J i ≡ 1 → Dec (i ≡ t) → getD out (length J + rank (freeAt J) i) 0 ≡ getD from i 0
-      rest i k f (yes q) = absurd (omega (arith, none, ap (freeAt J) (sym q) ∙ f))
-      rest i k f (no q) = a .rest i (omega arith) f
-
-  -- it is free
-  module _ (one : getD free t 0 ≡ 1) where
-    pub room-for : s < length from
-    room-for = rw (a .next) (rank-inside (length from) J (h .places) (h .apart) t l (mark-at h t l ∙ one))
-
-    pub arranged-free : ArrangedTo from J (set out s (getD from t 0)) (t + 1) (s + 1)
-    arranged-free =
-        record {
-          size = length-set out s (getD from t 0) ∙ a .size;
-          chosen = λ j k. getD-set-other out s j (getD from t 0) 0 (λ q. omega (arith, a .next)) ∙ a .chosen j k;
-          upto = omega arith;
-          next = rw (add-one t) (omega (arith, a .next, mark-at h t l ∙ one));
-          rest = λ i k f. rest i k f (ℕ-discrete i t);
-        }
-      where
-        rest : (i : ℕ) → i < t + 1 → freeAt J i ≡ 1 → Dec (i ≡ t) → getD (set out s (getD from t 0)) (length J + rank (freeAt J) i) 0 ≡ getD from i 0
-        rest i k f (yes q) = rw (q, ← a .next) (getD-set-same out s (getD from t 0) 0 (rw (a .size) room-for))
-        rest i k f (no q) =
-            getD-set-other out s (length J + rank (freeAt J) i) (getD from t 0) 0 (λ e. omega (arith, a .next, rank-lt J i t (omega arith) f))
-            ∙ a .rest i (omega arith) f
-
-pub arranged-all : {from J out : List ℕ} {t s : ℕ} → ArrangedTo from J out t s → length from ≤ t → Arranged from J (length J) out
-arranged-all a h = record { size = a .size; chosen = a .chosen; rest = λ i k f. a .rest i (omega arith) f }
+  -- no room is left, so no free point is
+  pub arranged-all : length from ≤ s → Arranged from J (length J) out
+  arranged-all r = record { size = a .size; chosen = a .chosen; rest = λ i k g. a .rest i (seen i k g) g }
+    where
+      seen : (i : ℕ) → i < length from → freeAt J i ≡ 1 → i < t
+      seen i k g = elim (ℕ-discrete (t - i) 0) [
+        | yes z ↦ omega (arith, rank-le (freeAt J) t i (omega arith), rank-inside (length from) J (h .places) (h .apart) i k g, a .next)
+        | no z ↦ omega arith
+      ]

@@ -1,5 +1,6 @@
 // The coordinates of all points with those at chosen places in front, so that a loop over the other points needs no test.
 use basics::MessageIndex;
+use basics::byte::wide;
 use engine::places::chosen_place;
 use engine::places::gather;
 use engine::places::index_of;
@@ -36,7 +37,8 @@ pub fn mark(places: &[u16], free: &mut [u8])
     }
 }
 
-// The coordinates at the free indices, behind those at the places.
+// The coordinates at the free indices, behind those at the places. A coordinate that is not at a free index is written over by the next, so no turn
+// needs a test; there is a next one as long as there is room.
 fn place_rest(places: &[u16], free: &[u8], from: &[u8], out: &mut [u8])
     requires { ⌜ Arrangeable (now places) (now free) (now from) (now out) ⌝ }
     requires { ⌜ Gathered (now from) (now places) (now out) ⌝ }
@@ -44,11 +46,9 @@ fn place_rest(places: &[u16], free: &[u8], from: &[u8], out: &mut [u8])
 {
     let mut s = places.len();
     let mut t = 0;
-    while t < from.len() {
-        if free[t] == 1 {
-            out[s] = from[t];
-            s += 1;
-        }
+    while s < out.len() {
+        out[s] = from[t];
+        s += wide(free[t]);
         t += 1;
     }
 }

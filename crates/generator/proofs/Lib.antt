@@ -1,5 +1,6 @@
 -- Laws of the rows.
 pub mod Sums
 pub mod Turns
+pub mod Symbols
 pub mod Adding
 pub mod Words

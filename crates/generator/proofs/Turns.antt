@@ -13,7 +13,7 @@ use Rattle.field.specs.Sum.{_⊕_}
 use Rattle.field.specs.Galois.{product, inverse}
 use Rattle.values.specs.Values.{Sweeping}
 use Rattle.arrangement.specs.Arranged.{rank}
-use Rattle.generator.specs.Rows.{total, multipleAt, quotientAt, entryAt, symbolAt, Over, RowLists, RowsRaised}
+use Rattle.generator.specs.Rows.{total, multipleAt, Over, RowLists, RowsRaised, Slots}
 
 -- a sum gains a term
 pub one-more : (g : ℕ → ℕ) (j : ℕ) {s e : ℕ} → s ≡ total g j → e ≡ g j → bitXor s e ≡ total g (j + 1)
@@ -24,11 +24,6 @@ pub multiple-by : (m α t : ℕ) (xs b : List ℕ) {a₀ a : List ℕ} {rule : �
     → e ≡ product m (bitXor (getD a j 0) p) (inverse m (bitXor α (getD xs j 0))) → e ≡ multipleAt m α t xs a₀ b j
 unfolding _⊕_
 multiple-by m α t xs b {j = j} s p e = rw (← s .rest j (omega arith), ← p) e
-
-pub quotient-by : (m α v w : ℕ) (xs a b : List ℕ) (j : ℕ) {p r e : ℕ} → p ≡ product m (getD a j 0) v → r ≡ product m (getD b j 0) w
-    → e ≡ product m (bitXor p r) (inverse m (bitXor α (getD xs j 0))) → e ≡ quotientAt m α v w xs a b j
-unfolding _⊕_
-quotient-by m α v w xs a b j p r e = rw (← p, ← r) e
 
 -- ---- the search for a row over a coordinate, among the first j
 
@@ -86,22 +81,7 @@ rows-turned g = record { points = g .points; firsts = g .seconds; seconds = g .f
 pub rows-sized : {xs a b a′ b′ : List ℕ} {i count : ℕ} → i ≤ count → length a′ ≡ length a → length b′ ≡ length b → RowLists xs a b count → RowLists xs a′ b′ i
 rows-sized l e f g = record { points = omega (arith, g .points); firsts = omega (arith, g .firsts); seconds = omega (arith, g .seconds) }
 
--- ---- what an entry is
-
-module _ (m : ℕ) (xs l u a b : List ℕ) (count j s : ℕ) where
-  abbrev value : ℕ → ℕ
-  value = quotientAt m (getD xs s 0) (getD l s 0) (getD u s 0) xs a b
-
-  pub entry-over : {r : ℕ} → getD xs s 0 ≡ getD xs j 0 → r ≡ total value count → bitXor 1 r ≡ entryAt m xs l u a b count j s
-  unfolding _⊕_
-  entry-over e p = rw (eq-eqb _ _ e) (ap (bitXor 1) p)
-
-  pub entry-away : {r : ℕ} → (getD xs s 0 ≡ getD xs j 0 → ⊥) → r ≡ value j → r ≡ entryAt m xs l u a b count j s
-  entry-away e p = rw (ne-eqb _ _ e) p
-
-module _ (count : ℕ) (free : List ℕ) (g : ℕ → ℕ) (t : ℕ) where
-  pub symbol-none : getD free t 0 ≡ 0 → 0 ≡ symbolAt count free g t
-  symbol-none e = rw (eq-eqb _ _ e)
-
-  pub symbol-some : {s v : ℕ} → (getD free t 0 ≡ 0 → ⊥) → s ≡ count + rank (λ i. getD free i 0) t → v ≡ g s → v ≡ symbolAt count free g t
-  symbol-some e p q = rw (ne-eqb _ _ e) (q ∙ ap g p)
+-- the slots of another row
+pub slots-of : {count : ℕ} {xs a b sums row row′ : List ℕ} → length row′ ≡ length xs → Slots count xs a b sums row → Slots count xs a b sums row′
+slots-of e g =
+    record { points = g .points; first-size = g .first-size; second-size = g .second-size; sum-size = g .sum-size; row-size = e; inside = g .inside; most = g .most }

@@ -1,11 +1,11 @@
 -- A row of the matrix while points are added: the function that is 1 at its own point and 0 at the others so far, by what it is a multiple of.
 -- The chosen points stand first in the lists of coordinates, so the row with index j is that of the point with index j.
-use Prim.Native.Nat.{ℕ, zero, suc, _+_, _<_, _≤_}
+use Prim.Native.Nat.{ℕ, zero, suc, _+_, _*_, _-_, _<_, _≤_}
 use mathlib.Core.Path.{_≡_}
 use mathlib.Core.Bool.{cond}
 use mathlib.Core.List.{List, []}
 use lib.Dec.{eqb}
-use lib.ListN.{length, getD}
+use lib.ListN.{length, getD, set}
 use Rattle.basics.specs.Lists.{table}
 use Rattle.field.specs.Sum.{_⊕_}
 use Rattle.field.specs.Field.{Arithmetic}
@@ -13,7 +13,7 @@ use Rattle.field.specs.Galois.{galois, product, inverse, size}
 use Rattle.field.specs.Tables.{IsLog, productByLog}
 use Rattle.elliptic.specs.Pair.{State, after}
 use Rattle.engine.specs.Places.{valueAt}
-use Rattle.values.specs.Values.{pointsIn}
+use Rattle.values.specs.Values.{pointsIn, Sweeping}
 use Rattle.arrangement.specs.Arranged.{rank}
 
 -- the sum of g 0, .., g (i − 1)
@@ -107,11 +107,17 @@ pub record Factor (m a r : ℕ) : Type 0 where
 abbrev pub quotientAt : ℕ → ℕ → ℕ → ℕ → List ℕ → List ℕ → List ℕ → ℕ → ℕ
 quotientAt m α v w xs a b j = product m (product m (getD a j 0) v ⊕ product m (getD b j 0) w) (inverse m (α ⊕ getD xs j 0))
 
+-- what its factors give it at the point with index s: its value there, unless both have the same first coordinate, and then 0
+abbrev pub partAt : ℕ → List ℕ → List ℕ → List ℕ → List ℕ → List ℕ → ℕ → ℕ → ℕ
+partAt m xs l u a b j s = quotientAt m (getD xs s 0) (getD l s 0) (getD u s 0) xs a b j
+
+-- what the first i rows leave of 1 there, but for the one over its coordinate
+abbrev pub leftAt : ℕ → List ℕ → List ℕ → List ℕ → List ℕ → List ℕ → ℕ → ℕ → ℕ
+leftAt m xs l u a b i s = 1 ⊕ total (quotientAt m (getD xs s 0) (getD l s 0) (getD u s 0) xs a b) i
+
 -- its value at the point with index s: where both have the same first coordinate, it is what the other rows leave of 1
 abbrev pub entryAt : ℕ → List ℕ → List ℕ → List ℕ → List ℕ → List ℕ → ℕ → ℕ → ℕ → ℕ
-entryAt m xs l u a b count j s =
-    let value = quotientAt m (getD xs s 0) (getD l s 0) (getD u s 0) xs a b in
-    cond (eqb (getD xs s 0) (getD xs j 0)) (1 ⊕ total value count) (value j)
+entryAt m xs l u a b count j s = cond (eqb (getD xs s 0) (getD xs j 0)) (leftAt m xs l u a b count s) (partAt m xs l u a b j s)
 
 -- ---- the rows are the words of the unit messages
 
@@ -144,3 +150,54 @@ module _ (m : ℕ) (xs ys : List ℕ) where
 -- the symbol at index t of a row whose entries at the free points, which stand behind the first count, are g
 abbrev pub symbolAt : ℕ → List ℕ → (ℕ → ℕ) → ℕ → ℕ
 symbolAt count free g t = cond (eqb (getD free t 0) 0) 0 (g (count + rank (λ i. getD free i 0) t))
+
+-- ---- a row is written at the free points alone, by the index of each. The indices are looked up as two bytes, behind the factors of the rows
+
+-- the index of the point in slot s
+abbrev pub indexAt : List ℕ → List ℕ → ℕ → ℕ
+indexAt a b s = getD a s 0 + 256 * getD b s 0
+
+abbrev pub Inside : ℕ → ℕ → List ℕ → List ℕ → Type 0
+Inside count n a b = (s : ℕ) → count ≤ s → s < n → indexAt a b s < n
+
+-- 1 marks the free points, which are as many as the slots behind the first count
+pub record Marked (count : ℕ) (free : List ℕ) : Type 0 where
+  pub small : (t : ℕ) → t < length free → getD free t 0 ≤ 1
+  pub whole : count + rank (λ i. getD free i 0) (length free) ≡ length free
+  pub most : length free ≤ 288
+
+-- each slot from count on has the index of a free point, in ascending order
+pub record Indexed (count n : ℕ) (free a b : List ℕ) : Type 0 where
+  pub inside : Inside count n a b
+  pub is-free : (s : ℕ) → count ≤ s → s < n → getD free (indexAt a b s) 0 ≡ 1
+  pub ranked : (s : ℕ) → count ≤ s → s < n → count + rank (λ i. getD free i 0) (indexAt a b s) ≡ s
+  pub whole : count + rank (λ i. getD free i 0) n ≤ n
+
+-- the indices have been put behind the factors, which are as they were
+pub record Behind (count : ℕ) (free a b a′ b′ : List ℕ) : Type 0 where
+  pub indexed : Indexed count (length free) free a′ b′
+  pub firsts : (j : ℕ) → j < count → getD a′ j 0 ≡ getD a j 0
+  pub seconds : (j : ℕ) → j < count → getD b′ j 0 ≡ getD b j 0
+
+-- a slot for each point in every array, with the indices behind the first count
+pub record Slots (count : ℕ) (xs a b sums row : List ℕ) : Type 0 where
+  pub points : count ≤ length xs
+  pub first-size : length a ≡ length xs
+  pub second-size : length b ≡ length xs
+  pub sum-size : length sums ≡ length xs
+  pub row-size : length row ≡ length xs
+  pub inside : Inside count (length xs) a b
+  pub most : length xs ≤ 288
+
+-- the row with index j has its parts at the free points, and they are added to the sums of these
+pub record Filled (m j count : ℕ) (xs l u a b sums sums′ row : List ℕ) : Type 0 where
+  pub added : Sweeping (λ s. getD sums s 0 ⊕ partAt m xs l u a b j s) count (length xs) sums sums′
+  pub symbols : (free : List ℕ) → Indexed count (length xs) free a b → row ≡ table (symbolAt count free (partAt m xs l u a b j)) (length xs)
+
+-- a row that has h at the free points gets the sum at one over its own coordinate, which makes that g, and 1 at its own place
+pub record Completed (j count place : ℕ) (xs a b sums row row′ : List ℕ) : Type 0 where
+  pub size : length row′ ≡ length row
+  pub symbols : (free : List ℕ) → Indexed count (length xs) free a b → (g h : ℕ → ℕ)
+      → ((s : ℕ) → count ≤ s → s < length xs → getD xs s 0 ≡ getD xs j 0 → getD sums s 0 ≡ g s)
+      → ((s : ℕ) → count ≤ s → s < length xs → (getD xs s 0 ≡ getD xs j 0 → ⊥) → h s ≡ g s)
+      → row ≡ table (symbolAt count free h) (length xs) → row′ ≡ set (table (symbolAt count free g) (length xs)) (place - 1) 1
