@@ -141,7 +141,7 @@ module _ {m : ℕ} {xs : List ℕ} {j e : ℕ} {l u : List ℕ} where
 -- ---- the arrays the other way round
 
 module _ {m e : ℕ} {xs ys : List ℕ} (a b : List ℕ) (r k : Sizes) (h : (k .low ≡ r .low) × (k .high ≡ r .high) × (k .turned ≡ not (r .turned))) where
-  shown-round : {s : State} → ShownIn m xs ys e b a r s → ShownIn m xs ys e a b k s
+  pub shown-round : {s : State} → ShownIn m xs ys e b a r s → ShownIn m xs ys e a b k s
   shown-round {s} p = rw (h .0, h .1, h .2) (go (r .turned) p)
     where
       go : (t : Bool) → Shown m xs ys e (cond t a b) (cond t b a) (r .low) (r .high) s → Shown m xs ys e (cond (not t) b a) (cond (not t) a b) (r .low) (r .high) s

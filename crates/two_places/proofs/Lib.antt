@@ -1,0 +1,3 @@
+-- The laws of two steps at once.
+pub mod Turns
+mod Runs

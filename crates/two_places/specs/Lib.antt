@@ -1,0 +1,2 @@
+-- What two places make of the values at once.
+pub mod Turns
