@@ -4,7 +4,7 @@ use arrangement::arrange::fill_ones;
 use basics::MessageIndex;
 use codewords::Parameters;
 use engine::places::gather;
-use values::run::run_pair;
+use two_places::run::run_pair;
 ghost use mathlib.Core.Path.{_≡_};
 ghost use mathlib.Core.List.{[]};
 ghost use Prim.Native.Nat.{_-_, _<_, _≤_};
@@ -31,7 +31,7 @@ fn zero_at_last(
 ) -> bool
     requires { ⌜ Tables m (now powers) (now logs) ⌝ }
     requires { ⌜ Coordinates m (now xs) (now u) × (now l ≡ table one (length (now u))) ⌝ }
-    requires { ⌜ RunsFirst m (now xs) (now u) (length (now xs) - 1) × (0 < length (now xs)) ⌝ }
+    requires { ⌜ RunsFirst m (now xs) (now u) (length (now xs) - 1) × (0 < length (now xs)) × (length (now xs) ≤ 288) ⌝ }
     ensures { λ r. ⌜ r ≡ eqb (valueAt m (now (xs .entry)) (now (u .entry)) (after (galois m) (pointsIn (now (xs .entry)) (now (u .entry))) [] (length (now (xs .entry)) - 1) .low) (length (now (xs .entry)) - 1)) 0 ⌝ }
 {
     let last = xs.len() - 1;

@@ -7,16 +7,16 @@ use engine::pair::Sizes;
 use engine::pair::first_sizes;
 use engine::pair::swapped;
 use values::pair::pair_step;
-use values::run::begin;
 ghost use mathlib.Core.Path.{_≡_};
 ghost use mathlib.Core.Bool.{cond};
 ghost use mathlib.Core.List.{[]};
 ghost use Prim.Native.Nat.{_+_, _<_, _≤_};
 ghost use lib.ListN.{length};
+ghost use Rattle.basics.specs.Lists.{table};
 ghost use Rattle.field.specs.Galois.{galois};
 ghost use Rattle.field.specs.Tables.{Tables};
 ghost use Rattle.elliptic.specs.Pair.{after};
-ghost use Rattle.values.specs.Values.{ShownIn, Coordinates, RunsFirst, Fits, pointsIn};
+ghost use Rattle.values.specs.Values.{ShownIn, Coordinates, RunsFirst, Fits, pointsIn, one};
 ghost use Rattle.two_places.specs.Turns.{Advances};
 
 // How many points of a run are done, and how many coefficients L and U have then.
@@ -129,23 +129,22 @@ fn advance_turn(
 }
 
 // The pair of the first points of a list, by its values at the later ones.
+// l holds the values of L = 1, and u the second coordinates, which are the values of U = Y.
 pub fn run_pair(
     m: u8,
     powers: &[u8; 1021],
     logs: &[u16; 512],
     xs: &[u8],
-    ys: &[u8],
     count: usize,
     l: &mut [u8],
     u: &mut [u8],
 ) -> Sizes
     requires { ⌜ Tables m (now powers) (now logs) ⌝ }
-    requires { ⌜ Coordinates m (now xs) (now ys) × (length (now l) ≡ length (now xs)) × (length (now u) ≡ length (now xs)) × (length (now xs) ≤ 288) ⌝ }
-    requires { ⌜ RunsFirst m (now xs) (now ys) count ⌝ }
-    ensures { λ r. ⌜ ShownIn m (now (xs .entry)) (now (ys .entry)) count (now (l .exit)) (now (u .exit)) r
-        (after (galois m) (pointsIn (now (xs .entry)) (now (ys .entry))) [] count) ⌝ }
+    requires { ⌜ Coordinates m (now xs) (now u) × (now l ≡ table one (length (now u))) × (length (now xs) ≤ 288) ⌝ }
+    requires { ⌜ RunsFirst m (now xs) (now u) count ⌝ }
+    ensures { λ r. ⌜ ShownIn m (now (xs .entry)) (now (u .entry)) count (now (l .exit)) (now (u .exit)) r
+        (after (galois m) (pointsIn (now (xs .entry)) (now (u .entry))) [] count) ⌝ }
 {
-    begin(ys, l, u);
     let mut n = first_sizes();
     let mut i = 0;
     while i < count {

@@ -4,7 +4,6 @@ use crate::sweep::raise;
 use engine::pair::Sizes;
 use engine::pair::grown;
 use engine::pair::ordered;
-use engine::pair::swapped;
 use field::quotient;
 ghost use mathlib.Core.Path.{_≡_};
 ghost use mathlib.Core.Bool.{cond};
@@ -51,28 +50,4 @@ pub fn pair_step(
     let t = quotient(m, powers, logs, u[j], at);
     gain_raise(m, powers, logs, alpha, t, from, xs, l, u);
     ordered(grown(n.low), longer(n.low, n.high))
-}
-
-// The same, with L and U in either array.
-pub fn pair_turn(
-    m: u8,
-    powers: &[u8; 1021],
-    logs: &[u16; 512],
-    j: usize,
-    from: usize,
-    xs: &[u8],
-    l: &mut [u8],
-    u: &mut [u8],
-    n: Sizes,
-) -> Sizes
-    requires { ⌜ Tables m (now powers) (now logs) ⌝ }
-    requires { ⌜ (j < length (now xs)) × Fits (now xs) (now l) (now u) n ⌝ }
-    ensures { λ r. ⌜ Steps m (now (xs .entry)) j from (cond (n .turned) (now (u .entry)) (now (l .entry))) (cond (n .turned) (now (l .entry)) (now (u .entry))) (n .low) (n .high)
-        (now (l .exit)) (now (u .exit)) r ⌝ }
-{
-    let turned = n.turned;
-    if turned {
-        return swapped(pair_step(m, powers, logs, j, from, xs, u, l, n));
-    }
-    pair_step(m, powers, logs, j, from, xs, l, u, n)
 }

@@ -40,7 +40,7 @@ zero-at-last-requires c κs =
     let ey = after-gather2 c .gather2 .ensures ∙ ap (table (coordinateAt (a .ys .now) (a .places .now))) (sizes .2) in
     let first = after-gather c .gather .kept .1 .1 .0 ∙ sizes .0 in
     let second = after-gather2 c .gather2 .kept .1 .1 .0 ∙ sizes .2 in
-    (s .pre .0, ((gathered-coordinates p h ex ey, c .before .before .before .before .before .fill-ones .ensures ∙ ap (table one) (sizes .1 ∙ sym second)), (gathered-runs p h ex ey, omega (arith, first, accepted p .k-least))))
+    (s .pre .0, ((gathered-coordinates p h ex ey, c .before .before .before .before .before .fill-ones .ensures ∙ ap (table one) (sizes .1 ∙ sym second)), (gathered-runs p h ex ey, omega (arith, first, accepted p .k-least), omega (arith, first, accepted p .k-most, accepted p .n-most))))
 
 same-length : tie.Need-same-length
 same-length c = search needs
