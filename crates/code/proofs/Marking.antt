@@ -12,7 +12,7 @@ use lib.Dec.{eqb}
 use lib.ListN.{length, getD, set, replicate, length-set, length-replicate}
 use lib.Seq.{getD-set-same, getD-set-other}
 use Rattle.basics.specs.Lists.{all, different, table}
-use Rattle.basics.proofs.Lists.{all-append, different-get, different-of, length-table, getD-table}
+use Rattle.basics.proofs.Lists.{all-append, different-get, different-of, length-table, getD-table, table-get}
 
 and-true : (b : Bool) → (b && true) ≡ b
 and-true true = refl
@@ -20,6 +20,13 @@ and-true false = refl
 
 pub all-next : {A : Type 0} (p : A → Bool) (f : ℕ → A) (i : ℕ) → (all p (table f i) && p (f i)) ≡ all p (table f (i + 1))
 all-next p f i = rw (add-one i) (sym (all-append p (table f i) (f i ∷ []) ∙ ap (λ b. all p (table f i) && b) (and-true (p (f i)))))
+
+-- the elements of a list of numbers, as a table
+abbrev pub element : List ℕ → ℕ → ℕ
+element l i = getD l i 0
+
+pub all-ends : (p : ℕ → Bool) (l : List ℕ) (i : ℕ) {b : Bool} → b ≡ all p (table (element l) i) → i ≡ length l → b ≡ all p l
+all-ends p l i h e = h ∙ ap (λ (k : ℕ). all p (table (element l) k)) e ∙ ap (all p) (table-get l 0)
 
 -- ---- a table of numbers: none of the first n stands twice
 

@@ -1,5 +1,6 @@
-// Tests of the lists that operations are lent, each in one pass.
-use basics::short::wide;
+// Tests of the lists that operations are lent, each in one pass without an early exit.
+use basics::byte;
+use basics::short;
 ghost use mathlib.Core.Path.{_≡_};
 ghost use mathlib.Core.Bool.{true};
 ghost use lib.ListN.{replicate};
@@ -11,32 +12,29 @@ ghost use Rattle.code.specs.Lists.{isPlace, isBelow};
 pub fn all_places(n: usize, places: &[u16]) -> bool
     ensures { λ r. ⌜ r ≡ all (isPlace n) (now (places .entry)) ⌝ }
 {
+    let mut right = true;
     let mut i = 0;
     while i < places.len() {
-        let p = wide(places[i]);
-        if p < 1 {
-            return false;
-        }
-        if n < p {
-            return false;
-        }
+        let p = short::wide(places[i]);
+        let inside = (1 <= p) & (p <= n);
+        right = right & inside;
         i += 1;
     }
-    true
+    right
 }
 
 // Every symbol is below q.
 pub fn all_below(q: usize, symbols: &[u8]) -> bool
     ensures { λ r. ⌜ r ≡ all (isBelow q) (now (symbols .entry)) ⌝ }
 {
+    let mut right = true;
     let mut i = 0;
     while i < symbols.len() {
-        if q <= symbols[i] as usize {
-            return false;
-        }
+        let u = byte::wide(symbols[i]);
+        right = right & (u < q);
         i += 1;
     }
-    true
+    right
 }
 
 // No number stands twice in the list: one that was met has a mark.
@@ -48,7 +46,7 @@ fn unmarked(list: &[u16], seen: &mut [u8]) -> bool
     let mut apart = true;
     let mut i = 0;
     while i < list.len() {
-        let s = wide(list[i]);
+        let s = short::wide(list[i]);
         apart = apart & (seen[s] != 1);
         seen[s] = 1;
         i += 1;

@@ -1,24 +1,20 @@
 -- The loop's invariant: the numbers met so far have marks, no others do, and the flag says that none of them stands twice.
 use Prim.Native.Nat.{ℕ, _≤_, _<_, _-_}
 use mathlib.Core.Path.{_≡_, refl, _∙_, ap}
-use mathlib.Core.List.{List}
 use native.Mathlib.Omega.{arith}
 use borrow.Author.Needs.{needs}
 use borrow.Author.Tests.{ltb-true}
 use lib.Dec.{eqb}
-use lib.ListN.{length, getD, length-set}
+use lib.ListN.{length, length-set}
 use Rattle.basics.specs.Lists.{different, table}
 use Rattle.basics.proofs.Lists.{all-get, table-get}
 use Rattle.code.specs.Lists.{isBelow}
-use Rattle.code.proofs.Marking.{Marked, marked-none, marked-next}
+use Rattle.code.proofs.Marking.{element, Marked, marked-none, marked-next}
 use Rattle.code.proofs.lists.unmarked.Statement.{statement}
 use Rattle.code.proofs.lists.unmarked.Tie as tie
 
-abbrev number : List ℕ → ℕ → ℕ
-number list i = getD list i 0
-
 abbrev Inv-loop : tie.InvT-loop
-Inv-loop list seen₀ apart₀ i₀ seen apart i = (i ≤ length list) × (length seen ≡ length seen₀) × Marked (number list) seen i apart
+Inv-loop list seen₀ apart₀ i₀ seen apart i = (i ≤ length list) × (length seen ≡ length seen₀) × Marked (element list) seen i apart
 
 abbrev μ-loop : tie.MeasureT-loop
 μ-loop list seen₀ apart₀ i₀ seen apart i = length list - i
@@ -30,7 +26,7 @@ entry l = l .before .before .before
 abbrev turn : tie.After-slice-known2 Inv-loop μ-loop → tie.At-loop Inv-loop μ-loop
 turn c = c .before .before .before .before
 
-below : (l : tie.At-loop Inv-loop μ-loop) → let list = entry l .args .list .now in l .loop .i < length list → number list (l .loop .i) < 512
+below : (l : tie.At-loop Inv-loop μ-loop) → let list = entry l .args .list .now in l .loop .i < length list → element list (l .loop .i) < 512
 below l h = ltb-true _ _ (all-get (isBelow 512) (entry l .args .list .now) 0 (l .loop .i) (entry l .pre .0) h)
 
 inside : (c : tie.After-slice-known2 Inv-loop μ-loop) → c .before .wide .result < length (turn c .loop .seen)
@@ -65,7 +61,7 @@ loop-again c =
     let l = turn c in (
       omega arith,
       simp length-set (l .loop .inv .1),
-      rw (c .before .wide .ensures) (marked-next (number (entry l .args .list .now)) _ (l .loop .i) (l .loop .inv .2) (below l (omega arith))),
+      rw (c .before .wide .ensures) (marked-next (element (entry l .args .list .now)) _ (l .loop .i) (l .loop .inv .2) (below l (omega arith))),
     )
 
 same-length : tie.Need-same-length Inv-loop μ-loop
@@ -76,7 +72,7 @@ returns c =
     let l = c .before in
     let list = entry l .args .list .now in
     let e : l .loop .i ≡ length list = omega arith in
-    l .loop .inv .2 .apart ∙ ap (λ (k : ℕ). different eqb (table (number list) k)) e ∙ ap (different eqb) (table-get list 0)
+    l .loop .inv .2 .apart ∙ ap (λ (k : ℕ). different eqb (table (element list) k)) e ∙ ap (different eqb) (table-get list 0)
 
 pub unmarked-spec : {M : Type 1} → statement M
 unmarked-spec =
