@@ -49,14 +49,20 @@ module _ (m : ℕ) (f : List ℕ) where
       kept z k y (yes q) = rw q (right y)
       kept z k y (no n) = rw (getD-set-other a x z u 0 n, getD-set-other b x z s 0 n) (k y)
 
-below : (t a b : ℕ) → b ≡ a + 1 → t < b → (t ≡ a → ⊥) → t < a
-below t a b e l n = omega arith
+-- what holds below a, and at a
+further : (P : ℕ → Type 0) (a b : ℕ) → b ≡ a + 1 → ((t : ℕ) → t < a → P t) → P a → (t : ℕ) → t < b → P t
+further P a b e before at-a t l = go (ℕ-discrete t a)
+  where
+    go : Dec (t ≡ a) → P t
+    go (yes q) = rw q at-a
+    go (no n) = before t (omega (arith, e, l, n))
 
 module _ {m : ℕ} {f : List ℕ} where
+  -- a lane at x is at its own coordinate
   own : {i x : ℕ} {l : Lane} → At m f i x l → At m f i (l .x) l
   own {i} {x} {l} h = subst (λ (z : ℕ). At m f i z l) (sym (h .is-x)) h
 
-  -- four lanes at the coordinates of o are at their own
+  -- so are four at the coordinates of o
   pub own-four : {i : ℕ} {o g : Four} → AtFour m f i o g → AtFour m f i g g
   own-four h = record { first = own (h .first); second = own (h .second); third = own (h .third); fourth = own (h .fourth) }
 
@@ -91,23 +97,17 @@ module _ {m : ℕ} {f : List ℕ} where
   -- four coordinates more
   pub split-more : {xs a b a′ b′ : List ℕ} {j : ℕ} {g : Four} → ((t : ℕ) → t < j → Right m f a b (getD xs t 0)) → Taken xs j g
       → StoredFour m f a b a′ b′ g → (t : ℕ) → t < j + 4 → Right m f a′ b′ (getD xs t 0)
-  split-more {xs} {a} {b} {a′} {b′} {j} {g} before taken s t l = go (ℕ-discrete t j) (ℕ-discrete t (j + 1)) (ℕ-discrete t (j + 2)) (ℕ-discrete t (j + 3))
+  split-more {xs} {a} {b} {a′} {b′} {j} {g} before taken s =
+      further P (j + 3) (j + 4) (omega arith)
+      (further P (j + 2) (j + 3) (omega arith)
+      (further P (j + 1) (j + 2) (omega arith)
+      (further P j (j + 1) refl (λ t l. s .kept _ (before t l)) (rw (← taken .first) (s .first)))
+      (rw (← taken .second) (s .second)))
+      (rw (← taken .third) (s .third)))
+      (rw (← taken .fourth) (s .fourth))
     where
-      third : j + 3 ≡ j + 2 + 1
-      third = omega arith
-
-      fourth : j + 4 ≡ j + 3 + 1
-      fourth = omega arith
-
-      second : j + 2 ≡ j + 1 + 1
-      second = omega arith
-
-      go : Dec (t ≡ j) → Dec (t ≡ j + 1) → Dec (t ≡ j + 2) → Dec (t ≡ j + 3) → Right m f a′ b′ (getD xs t 0)
-      go (yes q) d e c = rw (q, ← taken .first) (s .first)
-      go (no n) (yes q) e c = rw (q, ← taken .second) (s .second)
-      go (no n) (no o) (yes q) c = rw (q, ← taken .third) (s .third)
-      go (no n) (no o) (no p) (yes q) = rw (q, ← taken .fourth) (s .fourth)
-      go (no n) (no o) (no p) (no q) = s .kept _ (before t (below t j (j + 1) refl (below t (j + 1) (j + 2) second (below t (j + 2) (j + 3) third (below t (j + 3) (j + 4) fourth l q) p) o) n))
+      P : ℕ → Type 0
+      P t = Right m f a′ b′ (getD xs t 0)
 
 -- ---- the values at the points
 

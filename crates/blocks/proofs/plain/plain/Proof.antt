@@ -1,5 +1,5 @@
 -- The field number, the tables, the code test by them, and then the operation of a code that passed it.
-use mathlib.Core.Path.{_≡_, sym, _∙_}
+use mathlib.Core.Path.{sym, _∙_}
 use borrow.Author.Tests.{not-true}
 use Rattle.basics.proofs.Outcomes.{refuse}
 use Rattle.field.specs.Galois.{IsField}

@@ -1,8 +1,7 @@
 -- The loop's invariant: the first i coordinates are listed, and so is every byte that is marked.
-use mathlib.Core.Path.{_≡_}
 use Prim.Native.Nat.{_-_, _<_}
 use native.Mathlib.Omega.{arith}
-use lib.ListN.{length, getD}
+use lib.ListN.{length}
 use Rattle.evaluation.proofs.Marks.{Marked, marked-none, mark-least, marked-more, marked-all}
 use borrow.Author.Needs.{needs}
 use Rattle.evaluation.proofs.distinct.distinct.Statement.{statement}
