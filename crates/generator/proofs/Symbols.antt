@@ -17,8 +17,8 @@ use Rattle.field.specs.Galois.{product, inverse}
 use Rattle.field.specs.Tables.{productByLog}
 use Rattle.values.specs.Values.{Sweeping}
 use Rattle.arrangement.specs.Arranged.{rank}
-use Rattle.arrangement.proofs.Arranged.{rank-le, rank-next}
-use Rattle.generator.specs.Rows.{Factor, total, partAt, leftAt, entryAt, symbolAt, indexAt, Marked, Indexed, Behind, Filled, Completed}
+use Rattle.arrangement.proofs.Arranged.{rank-next}
+use Rattle.generator.specs.Rows.{Factor, partAt, symbolAt, indexAt, Marked, Indexed, Behind, Filled, Completed}
 
 -- the slot of the free point with index t
 abbrev slotOf : ℕ → List ℕ → ℕ → ℕ
@@ -69,7 +69,7 @@ module _ {count : ℕ} {free a₀ b₀ a b : List ℕ} {t s : ℕ} (w : Marked c
         second-size = length-set b s high ∙ x .second-size;
         upto = omega (arith, mark-left h);
         next = rw (add-one t) (omega (arith, x .next, e));
-        inside = λ r k l. elim (ℕ-discrete r s) [ | yes d ↦ omega (arith, at r d) | no d ↦ omega (arith, other r d, x .inside r k (earlier r l d)) ];
+        inside = λ r k l. elim (ℕ-discrete r s) [ yes d ↦ omega (arith, at r d) | no d ↦ omega (arith, other r d, x .inside r k (earlier r l d)) ];
         is-free = λ r k l. elim (ℕ-discrete r s) [
           | yes d ↦ ap (λ i. getD free i 0) (at r d) ∙ omega (arith, w .small t (mark-left h), e)
           | no d ↦ ap (λ i. getD free i 0) (other r d) ∙ x .is-free r k (earlier r l d)
@@ -182,9 +182,9 @@ module _ {count n : ℕ} {free a b : List ℕ} (x : Indexed count n free a b) {g
             | yes d ↦ ap (getD-of (set row (indexAt a b s) v)) d ∙ getD-set-same row (indexAt a b s) v 0 (rw (w .size) (x .inside s low more)) ∙ e
                 ∙ ap g (sym (ap (slotOf count free) d ∙ x .ranked s low more))
             | no d ↦ other t d ∙ elim (ℕ-discrete (slotOf count free t) s) [
-                | yes f ↦ absurd (alone t l z f d)
-                | no f ↦ w .before t l z (omega arith)
-              ]
+              | yes f ↦ absurd (alone t l z f d)
+              | no f ↦ w .before t l z (omega arith)
+            ]
           ];
           after = λ t l z k. other t (λ d. omega (arith, ap (slotOf count free) d, x .ranked s low more)) ∙ w .after t l z (omega arith);
         }

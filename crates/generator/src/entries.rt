@@ -1,8 +1,8 @@
 // The entries of a row of the matrix, by its factors. A row is that of a unit message, and so has a message index. All rows together are 1 at every
 // point: the one over a point's coordinate gets what the sum of the others leaves there, once they are all written.
+use crate::indices::index_in;
 use basics::MessageIndex;
 use basics::Place;
-use crate::indices::index_in;
 use engine::places::index_of;
 use engine::slices::clear;
 use field::add;
@@ -27,20 +27,14 @@ fn factor(m: u8, logs: &[u16; 512], a: u8) -> u16
 }
 
 // What a row's factors, which have the logarithms la and lb, give it at a point where L and U are v and w; d is the sum of their coordinates.
-fn part(
-    m: u8,
-    powers: &[u8; 1021],
-    logs: &[u16; 512],
-    la: u16,
-    lb: u16,
-    v: u8,
-    w: u8,
-    d: u8,
-) -> u8
+fn part(m: u8, powers: &[u8; 1021], logs: &[u16; 512], la: u16, lb: u16, v: u8, w: u8, d: u8) -> u8
     requires { ⌜ Tables m (now powers) (now logs) × IsLog m la × IsLog m lb ⌝ }
     ensures { λ r. ⌜ r ≡ product m (productByLog m la v ⊕ productByLog m lb w) (inverse m d) ⌝ }
 {
-    let top = add(product_by_log(m, powers, logs, la, v), product_by_log(m, powers, logs, lb, w));
+    let top = add(
+        product_by_log(m, powers, logs, la, v),
+        product_by_log(m, powers, logs, lb, w),
+    );
     quotient(m, powers, logs, top, d)
 }
 
@@ -101,7 +95,22 @@ pub fn fill_row(
     let j = index.0;
     let la = factor(m, logs, a[j]);
     let lb = factor(m, logs, b[j]);
-    fill_parts(m, powers, logs, index, la, lb, count, xs, l, u, a, b, sums, row);
+    fill_parts(
+        m,
+        powers,
+        logs,
+        index,
+        la,
+        lb,
+        count,
+        xs,
+        l,
+        u,
+        a,
+        b,
+        sums,
+        row,
+    );
 }
 
 // The sum of all rows at a point over the coordinate of this one is its entry there, and 1 that at its own place.
