@@ -1,5 +1,5 @@
 -- Points of a curve with the same slot are the same: two over one X are each other's opposite, and only one of them has the greater Y.
-use Prim.Native.Nat.{ℕ, _+_, _*_, _≤_, _<_}
+use Prim.Native.Nat.{ℕ, _+_, _*_, _<_}
 use mathlib.Core.Path.{_≡_, refl, sym, _∙_, ap, ap₂}
 use mathlib.Core.Bool.{Bool, true, false, cond}
 use native.Mathlib.Omega.{arith}
@@ -7,8 +7,7 @@ use native.Mathlib.Decide.{ℕ-discrete}
 use borrow.Author.Tests.{ltb-true, ltb-false, eq-eqb, ne-eqb, eqb-true}
 use lib.Dec.{eqb, ltb}
 use Rattle.basics.proofs.Lists.{both}
-use Rattle.field.specs.Sum.{_⊕_}
-use Rattle.field.proofs.Sum.{⊕-assoc, ⊕-self, ⊕-zero}
+use Rattle.field.proofs.Sum.{⊕-assoc}
 use Rattle.field.specs.Field.{Arithmetic, Field}
 use Rattle.elliptic.specs.declared.Curve.{Curve}
 use Rattle.elliptic.specs.declared.Point.{Point}
@@ -54,14 +53,6 @@ module _ {F : Arithmetic} (K : Field F) (C : Curve) (small : C .g3 < F .q) where
       by (no n) =
           one-greater (P .y) (Q .y)
           (ap (λ z. ltb z (P .y)) (other p o (h .0) n) ∙ h .1 ∙ ap (λ z. ltb z (Q .y)) (sym (other o p (sym (h .0)) (λ d. n (sym d)))))
-
-  pub slot-lt : {P : Point} → On F C P → q ≤ 256 → slot F C P < 512
-  unfolding slot
-  slot-lt {P} p h = by (ltb (opposite F C P .y) (P .y))
-    where
-      by : (b : Bool) → P .x * 2 + cond b 1 0 < 512
-      by true = omega (arith, p .x-lt)
-      by false = omega (arith, p .x-lt)
 
   -- so two points are the same exactly if their slots are
   pub slot-same : {P Q : Point} → On F C P → On F C Q → samePoint P Q ≡ eqb (slot F C P) (slot F C Q)

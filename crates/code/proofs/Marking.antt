@@ -1,79 +1,102 @@
--- A list whose numbers are marked as they are met: a number stands twice exactly if it has a mark when it is met.
+-- One pass over a table without an early exit: what holds of all elements so far, and whether a number was met twice, which is so exactly if
+-- it has a mark when it is met.
 use Prim.Native.Nat.{ℕ, zero, suc, _+_, _<_}
-use mathlib.Core.Path.{_≡_, refl, sym, _∙_, ap}
-use mathlib.Core.Bool.{Bool, true, false}
-use mathlib.Core.List.{List}
+use mathlib.Core.Path.{_≡_, refl, sym, _∙_, ap, ap₂}
+use mathlib.Core.Bool.{Bool, true, false, not, _&&_, false≢true}
+use mathlib.Core.List.{List, [], _∷_}
+use native.Mathlib.Numerals.{add-one}
 use native.Mathlib.Omega.{arith}
 use native.Mathlib.Decide.{ℕ-discrete}
-use borrow.Author.Tests.{eq-eqb, ne-eqb, eqb-false}
+use borrow.Author.Tests.{eqb-true, eqb-false, eq-eqb, ne-eqb}
 use lib.Dec.{eqb}
 use lib.ListN.{length, getD, set, replicate, length-set, length-replicate}
 use lib.Seq.{getD-set-same, getD-set-other}
-use Rattle.basics.specs.Lists.{different}
-use Rattle.basics.proofs.Lists.{different-get, different-of}
+use Rattle.basics.specs.Lists.{all, different, table}
+use Rattle.basics.proofs.Lists.{all-append, different-get, different-of, length-table, getD-table}
 
--- after the first i numbers of l: those have marks in seen, no others do, and none of them stands twice
-pub record Marked (l seen : List ℕ) (i : ℕ) : Type 0 where
+and-true : (b : Bool) → (b && true) ≡ b
+and-true true = refl
+and-true false = refl
+
+pub all-next : {A : Type 0} (p : A → Bool) (f : ℕ → A) (i : ℕ) → (all p (table f i) && p (f i)) ≡ all p (table f (i + 1))
+all-next p f i = rw (add-one i) (sym (all-append p (table f i) (f i ∷ []) ∙ ap (λ b. all p (table f i) && b) (and-true (p (f i)))))
+
+-- ---- a table of numbers: none of the first n stands twice
+
+module _ (f : ℕ → ℕ) where
+  apart-at : (n a b : ℕ) → different eqb (table f n) ≡ true → a < b → b < n → eqb (f a) (f b) ≡ false
+  apart-at n a b e h k =
+      sym (ap₂ eqb (getD-table f n a 0 (omega arith)) (getD-table f n b 0 k)) ∙ different-get eqb (table f n) 0 a b e h (rw (length-table f n) k)
+
+  apart-of : (n : ℕ) → ((a b : ℕ) → a < b → b < n → eqb (f a) (f b) ≡ false) → different eqb (table f n) ≡ true
+  apart-of n h =
+      different-of eqb (table f n) 0
+      (λ a b l k. let j : b < n = rw (length-table f n) at k in ap₂ eqb (getD-table f n a 0 (omega arith)) (getD-table f n b 0 j) ∙ h a b l j)
+
+  -- one more number, which was met before exactly if t holds
+  apart-next : (i : ℕ) (t : Bool) → (t ≡ true → (a : ℕ) × (a < i) × (f a ≡ f i)) → ((a : ℕ) → a < i → f a ≡ f i → t ≡ true)
+      → (different eqb (table f i) && not t) ≡ different eqb (table f (i + 1))
+  apart-next i t met new = by (different eqb (table f i)) (different eqb (table f (i + 1))) t refl refl met new
+    where
+      by : (d e t : Bool) → different eqb (table f i) ≡ d → different eqb (table f (i + 1)) ≡ e
+          → (t ≡ true → (a : ℕ) × (a < i) × (f a ≡ f i)) → ((a : ℕ) → a < i → f a ≡ f i → t ≡ true) → (d && not t) ≡ e
+      by true true false p q met new = refl
+      by true false true p q met new = refl
+      by false false t p q met new = refl
+      by true true true p q met new =
+          let (a, h, k) = met refl in
+          absurd (eqb-false (f a) (f i) (apart-at (i + 1) a i q h (omega arith)) k)
+      by false true t p q met new = absurd (false≢true (sym p ∙ apart-of i (λ a b h k. apart-at (i + 1) a b q h (omega arith))))
+      by true false false p q met new = absurd (false≢true (sym q ∙ apart-of (i + 1) (λ a b h k. at a b h k (ℕ-discrete b i))))
+        where
+          at : (a b : ℕ) → a < b → b < i + 1 → Dec (b ≡ i) → eqb (f a) (f b) ≡ false
+          at a b h k (yes e) = ne-eqb (f a) (f b) (λ g. false≢true (new a (omega arith) (g ∙ ap f e)))
+          at a b h k (no n) = apart-at i a b p h (omega arith)
+
+-- ---- the marks
+
+-- after the numbers f 0 to f (i − 1): those have marks in seen, no others do, and b says that none of them stands twice
+pub record Marked (f : ℕ → ℕ) (seen : List ℕ) (i : ℕ) (b : Bool) : Type 0 where
   pub size : length seen ≡ 512
-  pub found : (s : ℕ) → getD seen s 0 ≡ 1 → (a : ℕ) × (a < i) × (getD l a 0 ≡ s)
-  pub marked : (a : ℕ) → a < i → getD seen (getD l a 0) 0 ≡ 1
-  pub apart : (a b : ℕ) → a < b → b < i → eqb (getD l a 0) (getD l b 0) ≡ false
+  pub found : (s : ℕ) → getD seen s 0 ≡ 1 → (a : ℕ) × (a < i) × (f a ≡ s)
+  pub marked : (a : ℕ) → a < i → getD seen (f a) 0 ≡ 1
+  pub apart : b ≡ different eqb (table f i)
 
 no-mark : (n s : ℕ) → _≡_ {A = ℕ} (getD (replicate n 0) s 0) 1 → ⊥
 no-mark zero s e = let z : _≡_ {A = ℕ} 0 1 = e in omega arith
 no-mark (suc n) zero e = let z : _≡_ {A = ℕ} 0 1 = e in omega arith
 no-mark (suc n) (suc s) e = no-mark n s e
 
-pub marked-none : (l seen : List ℕ) → seen ≡ replicate 512 0 → Marked l seen 0
-marked-none l seen e =
+pub marked-none : (f : ℕ → ℕ) (seen : List ℕ) → seen ≡ replicate 512 0 → Marked f seen 0 true
+marked-none f seen e =
     record {
       size = ap length e ∙ length-replicate {A = ℕ} 512 0;
       found = λ s h. absurd (no-mark 512 s (rw e at h));
       marked = λ a h. absurd (omega arith);
-      apart = λ a b h k. absurd (omega arith);
+      apart = refl;
     }
 
-module _ (l seen : List ℕ) (i : ℕ) (m : Marked l seen i) where
-  -- a number without a mark is met
-  pub marked-more : getD l i 0 < 512 → (getD seen (getD l i 0) 0 ≡ 1 → ⊥) → Marked l (set seen (getD l i 0) 1) (i + 1)
-  marked-more lt new =
-      record {
-        size = length-set seen (getD l i 0) 1 ∙ m .size;
-        found = λ s h. found s h (ℕ-discrete (getD l i 0) s);
-        marked = λ a h. marked a h (ℕ-discrete a i) (ℕ-discrete (getD l i 0) (getD l a 0));
-        apart = λ a b h k. apart a b h k (ℕ-discrete b i);
-      }
-    where
-      s₀ : ℕ
-      s₀ = getD l i 0
+-- one more number is met and marked
+pub marked-next : (f : ℕ → ℕ) (seen : List ℕ) (i : ℕ) {b : Bool} → Marked f seen i b → f i < 512
+    → Marked f (set seen (f i) 1) (i + 1) (b && not (eqb (getD seen (f i) 0) 1))
+marked-next f seen i m lt =
+    record {
+      size = length-set seen (f i) 1 ∙ m .size;
+      found = λ s h. found s h (ℕ-discrete (f i) s);
+      marked = λ a h. marked a h (ℕ-discrete a i) (ℕ-discrete (f i) (f a));
+      apart = ap (λ d. d && not (eqb (getD seen (f i) 0) 1)) (m .apart)
+          ∙ apart-next f i (eqb (getD seen (f i) 0) 1) (λ t. m .found (f i) (eqb-true (getD seen (f i) 0) 1 t))
+          (λ a h e. eq-eqb (getD seen (f i) 0) 1 (ap (λ s. getD seen s 0) (sym e) ∙ m .marked a h));
+    }
+  where
+    inside : f i < length seen
+    inside = omega (arith, m .size)
 
-      inside : s₀ < length seen
-      inside = omega (arith, m .size)
+    found : (s : ℕ) → getD (set seen (f i) 1) s 0 ≡ 1 → Dec (f i ≡ s) → (a : ℕ) × (a < i + 1) × (f a ≡ s)
+    found s h (yes e) = (i, omega arith, e)
+    found s h (no n) = let (a, k, e) = m .found s (sym (getD-set-other seen (f i) s 1 0 (λ e. n (sym e))) ∙ h) in (a, omega arith, e)
 
-      found : (s : ℕ) → getD (set seen s₀ 1) s 0 ≡ 1 → Dec (s₀ ≡ s) → (a : ℕ) × (a < i + 1) × (getD l a 0 ≡ s)
-      found s h (yes e) = (i, omega arith, e)
-      found s h (no n) = let (a, k, e) = m .found s (sym (getD-set-other seen s₀ s 1 0 (λ e. n (sym e))) ∙ h) in (a, omega arith, e)
-
-      marked : (a : ℕ) → a < i + 1 → Dec (a ≡ i) → Dec (s₀ ≡ getD l a 0) → getD (set seen s₀ 1) (getD l a 0) 0 ≡ 1
-      marked a h d (yes e) = ap (λ s. getD (set seen s₀ 1) s 0) (sym e) ∙ getD-set-same seen s₀ 1 0 inside
-      marked a h (yes e) (no n) = absurd (n (ap (λ j. getD l j 0) (sym e)))
-      marked a h (no k) (no n) = getD-set-other seen s₀ (getD l a 0) 1 0 (λ e. n (sym e)) ∙ m .marked a (omega arith)
-
-      apart : (a b : ℕ) → a < b → b < i + 1 → Dec (b ≡ i) → eqb (getD l a 0) (getD l b 0) ≡ false
-      apart a b h k (yes e) =
-          ne-eqb (getD l a 0) (getD l b 0)
-          (λ f. new (ap (λ s. getD seen s 0) (sym (f ∙ ap (λ j. getD l j 0) e)) ∙ m .marked a (omega arith)))
-      apart a b h k (no n) = m .apart a b h (omega arith)
-
-  -- a number with a mark is met: the list has it twice
-  pub marked-twice : i < length l → getD seen (getD l i 0) 0 ≡ 1 → false ≡ different eqb l
-  marked-twice h e = by (different eqb l) refl
-    where
-      by : (b : Bool) → different eqb l ≡ b → false ≡ different eqb l
-      by false q = sym q
-      by true q =
-          let (a, k, f) = m .found (getD l i 0) e in
-          absurd (eqb-false (getD l a 0) (getD l i 0) (different-get eqb l 0 a i q k h) f)
-
-  pub marked-all : length l ≡ i → true ≡ different eqb l
-  marked-all e = sym (different-of eqb l 0 (λ a b h k. m .apart a b h (omega arith)))
+    marked : (a : ℕ) → a < i + 1 → Dec (a ≡ i) → Dec (f i ≡ f a) → getD (set seen (f i) 1) (f a) 0 ≡ 1
+    marked a h d (yes e) = ap (λ s. getD (set seen (f i) 1) s 0) (sym e) ∙ getD-set-same seen (f i) 1 0 inside
+    marked a h (yes e) (no n) = absurd (n (ap f (sym e)))
+    marked a h (no k) (no n) = getD-set-other seen (f i) (f a) 1 0 (λ e. n (sym e)) ∙ m .marked a (omega arith)

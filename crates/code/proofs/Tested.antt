@@ -1,18 +1,26 @@
--- An operation that begins with the code test: it goes on where the answer is Done, and else the answer is the operation's own.
-use Prim.{Unit, tt}
+-- An operation that begins with the code test. It tests the field number, makes the field's tables, and has the rest tested by them:
+-- it goes on where the answer is Done, and else the answer is the operation's own.
+use Prim.{Unit}
 use Prim.Native.Nat.{ℕ, _≤_}
-use mathlib.Core.Bool.{Bool, true, false}
-use mathlib.Core.Path.{_≡_, refl, sym, _∙_, ap}
-use mathlib.Core.Logic.{_⊎_, inl, inr}
-use borrow.Author.Tests.{leb-true}
+use mathlib.Core.Bool.{Bool, true, false, not}
+use mathlib.Core.List.{[], _∷_}
+use mathlib.Core.Path.{_≡_, refl, sym, _∙_}
+use mathlib.Core.Logic.{⊎-elim}
+use native.Mathlib.Omega.{arith}
+use types.Run.{OneOf}
+use denote.Enum.Declared.{tagOf}
+use borrow.Author.Tests.{leb-true, not-false}
 use lib.Dec.{eqb, leb}
 use lib.ListN.{length}
 use Rattle.basics.specs.declared.Refusal.{Refusal}
 use Rattle.basics.specs.declared.Answer.{Answer}
 use Rattle.basics.specs.declared.Answer.the-variants.{Done, Refused}
-use Rattle.basics.specs.Outcome.{Outcome, refused, accepted, check, answer, left, counts, Meets}
+use Rattle.basics.specs.Outcome.{Outcome, check, answer, left, counts, Meets}
+use Rattle.basics.proofs.Answer.{the-type}
 use Rattle.basics.proofs.Outcomes.{meets-as, counts-check, counts-if}
 use Rattle.basics.proofs.Lists.{both}
+use Rattle.field.specs.Galois.{isField, IsField}
+use Rattle.field.proofs.Galois.{is-field}
 use Rattle.codewords.specs.Code.{Code, n, rightCount, checkCode, codeAnswer}
 use Rattle.codewords.proofs.Accepted.{check-done, check-refused, accepted-done}
 
@@ -25,6 +33,10 @@ answered : (b : Bool) (e : Refusal) (u : Outcome (Unit {0})) → Answered (answe
 unfolding check answer
 answered true e u h = h
 answered false e u h = stopped e refl
+
+-- the test of the field number answered b
+pub field-number : {m : ℕ} {b : Bool} → b ≡ isField m → not b ≡ false → IsField m
+field-number {b = b} e h = is-field _ (sym e ∙ not-false b h)
 
 module _ (code : Code) where
   verdict : Answered (codeAnswer code)
@@ -45,6 +57,10 @@ module _ (code : Code) where
         by : Answered (codeAnswer code) → Meets (checkCode code o) r old old
         by (done h) = absurd (d (e ∙ h))
         by (stopped x h) = meets-as (check-refused code h o) (record { answers = e ∙ h; leaves = refl })
+
+    -- the same by the tag of the answer: Counted or Refused
+    pub stop-by-tag : {r : Answer} {old : M} → r ≡ codeAnswer code → OneOf (1 ∷ 2 ∷ []) (tagOf the-type r) → Meets (checkCode code o) r old old
+    stop-by-tag e t = stop e (λ d. ⊎-elim (λ k. omega (arith, k)) (λ k. omega (arith, k)) (rw d at t))
 
     -- what an operation counts, where that is bounded for 288 points at most
     pub counts-code : (b : ℕ) → (n code ≤ 288 → counts (answer o) ≤ b) → counts (answer (checkCode code o)) ≤ b

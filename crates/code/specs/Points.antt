@@ -1,31 +1,20 @@
 -- What the code test asks of the points and the dimension.
 use Prim.{Unit, tt}
 use Prim.Native.Nat.{ℕ}
-use mathlib.Core.Bool.{Bool, true, _&&_}
-use mathlib.Core.List.{List}
-use mathlib.Core.Path.{_≡_}
+use mathlib.Core.Bool.{Bool, _&&_}
 use lib.Dec.{eqb, leb, ltb}
-use lib.ListN.{length}
-use Rattle.basics.specs.Lists.{all}
 use Rattle.basics.specs.Outcome.{accepted, check, answer}
 use Rattle.basics.specs.declared.Answer.{Answer}
 use Rattle.basics.specs.declared.Refusal.the-variants.{Singular, PointCount, OffCurve, RepeatedPoint, Dimension}
 use Rattle.field.specs.Field.{Arithmetic}
-use Rattle.field.specs.Galois.{size, galois}
 use Rattle.elliptic.specs.declared.Curve.{Curve}
 use Rattle.elliptic.specs.declared.Point.{Point}
-use Rattle.elliptic.specs.Curve.{inField, onCurve, coefficientsBelow}
-use Rattle.codewords.specs.Code.{Code, pointsAt, smooth, rightCount, allOnCurve, allDifferent, rightDimension}
+use Rattle.elliptic.specs.Curve.{inField, onCurve}
+use Rattle.codewords.specs.Code.{Code, smooth, rightCount, allOnCurve, allDifferent, rightDimension}
 
 -- the coordinates are in the field, and the point lies on the curve
 abbrev pub isPoint : Arithmetic → Curve → Point → Bool
 isPoint F C P = inField F P && onCurve F C P
-
--- the lists are of points on a curve whose coefficients are in the field
-pub record Pointed (m : ℕ) (C : Curve) (xs ys : List ℕ) : Type 0 where
-  pub lengths : length xs ≡ length ys
-  pub coefficients : coefficientsBelow (size m) C ≡ true
-  pub on : all (isPoint (galois m) C) (pointsAt xs ys) ≡ true
 
 -- as many X as Y, 2 to 288
 abbrev pub countIn : ℕ → ℕ → Bool

@@ -13,6 +13,9 @@ use Rattle.elliptic.specs.Curve.{point, opposite}
 unfoldable pub slot : Arithmetic → Curve → Point → ℕ
 slot F C P = P .x * 2 + cond (ltb (opposite F C P .y) (P .y)) 1 0
 
--- the slot of the point at index i
+-- the point at index i of two coordinate lists, and its slot
+abbrev pub listed : List ℕ → List ℕ → ℕ → Point
+listed xs ys i = point (getD xs i 0) (getD ys i 0)
+
 abbrev pub slotAt : Arithmetic → Curve → List ℕ → List ℕ → ℕ → ℕ
-slotAt F C xs ys i = slot F C (point (getD xs i 0) (getD ys i 0))
+slotAt F C xs ys i = slot F C (listed xs ys i)

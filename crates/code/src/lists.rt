@@ -45,16 +45,15 @@ fn unmarked(list: &[u16], seen: &mut [u8]) -> bool
     requires { ⌜ now seen ≡ replicate 512 0 ⌝ }
     ensures { λ r. ⌜ r ≡ different eqb (now (list .entry)) ⌝ }
 {
+    let mut apart = true;
     let mut i = 0;
     while i < list.len() {
         let s = wide(list[i]);
-        if seen[s] == 1 {
-            return false;
-        }
+        apart = apart & (seen[s] != 1);
         seen[s] = 1;
         i += 1;
     }
-    true
+    apart
 }
 
 // No number stands twice in the list.

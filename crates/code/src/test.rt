@@ -1,5 +1,4 @@
 // The code test: numbers 1 to 7 in their order, in time proportional to the number of points.
-use crate::lists::all_different;
 use basics::Answer;
 use basics::Refusal;
 use basics::byte::wide;
@@ -16,117 +15,86 @@ use field::powers;
 use field::size;
 ghost use mathlib.Core.Path.{_≡_};
 ghost use mathlib.Core.Bool.{true};
-ghost use Prim.Native.Nat.{_≤_};
-ghost use lib.ListN.{length};
+ghost use Prim.Native.Nat.{_<_};
+ghost use lib.Dec.{eqb};
+ghost use lib.ListN.{length, replicate};
 ghost use Rattle.basics.specs.Lists.{all, different, table};
-ghost use Rattle.field.specs.Galois.{IsField, galois, size};
+ghost use Rattle.field.specs.Galois.{galois, size};
 ghost use Rattle.field.specs.Tables.{Tables};
-ghost use Rattle.elliptic.specs.Curve.{coefficientsBelow, samePoint};
+ghost use Rattle.elliptic.specs.Curve.{coefficientsBelow};
 ghost use Rattle.codewords.specs.Code.{codeOf, pointsAt, codeAnswer};
 ghost use Rattle.code.specs.Slots.{slot, slotAt};
-ghost use Rattle.code.specs.Points.{isPoint, Pointed, countIn, dimensionIn, pointsAnswer};
+ghost use Rattle.code.specs.Points.{isPoint, countIn, dimensionIn, pointsAnswer};
 
-// Whether p has coordinates in the field and lies on the curve.
-fn is_point(m: u8, powers: &[u8; 1021], logs: &[u16; 512], c: Curve, p: Point) -> bool
-    requires { ⌜ Tables m (now powers) (now logs) ⌝ }
+// What one pass over the points finds: all are points of the curve; no slot is met twice.
+struct Verdict {
+    on: bool,
+    apart: bool,
+}
+
+// Whether p has coordinates in the field and lies on the curve, without a branch.
+fn is_point(m: u8, powers: &[u8; 1021], logs: &[u16; 512], c: Curve, q: usize, p: Point) -> bool
+    requires { ⌜ Tables m (now powers) (now logs) × (q ≡ size m) ⌝ }
     ensures { λ r. ⌜ r ≡ isPoint (galois m) c p ⌝ }
 {
-    let q = size(m);
-    if q <= wide(p.x) {
-        return false;
-    }
-    if q <= wide(p.y) {
-        return false;
-    }
-    on_curve(m, powers, logs, c, p)
+    let inside = (wide(p.x) < q) & (wide(p.y) < q);
+    inside & on_curve(m, powers, logs, c, p)
 }
 
-fn all_on_curve(
-    m: u8,
-    powers: &[u8; 1021],
-    logs: &[u16; 512],
-    c: Curve,
-    xs: &[u8],
-    ys: &[u8],
-) -> bool
+fn slot(m: u8, powers: &[u8; 1021], logs: &[u16; 512], c: Curve, p: Point) -> usize
     requires { ⌜ Tables m (now powers) (now logs) ⌝ }
-    requires { ⌜ length (now xs) ≡ length (now ys) ⌝ }
-    ensures { λ r. ⌜ r ≡ all (isPoint (galois m) c) (pointsAt (now (xs .entry)) (now (ys .entry))) ⌝ }
-{
-    let mut i = 0;
-    while i < xs.len() {
-        let p = Point { x: xs[i], y: ys[i] };
-        if !is_point(m, powers, logs, c, p) {
-            return false;
-        }
-        i += 1;
-    }
-    true
-}
-
-fn slot(m: u8, powers: &[u8; 1021], logs: &[u16; 512], c: Curve, p: Point) -> u16
-    requires { ⌜ Tables m (now powers) (now logs) ⌝ }
-    ensures { λ r. ⌜ r ≡ slot (galois m) c p ⌝ }
+    ensures { λ r. ⌜ (r ≡ slot (galois m) c p) × (r < 512) ⌝ }
 {
     let other = opposite(m, powers, logs, c, p);
-    let twice = p.x as u16 * 2;
-    if other.y < p.y { twice + 1 } else { twice }
+    let twice = wide(p.x) * 2;
+    let greater = other.y < p.y;
+    twice + greater as usize
 }
 
-fn fill_slots(
+// One pass over the points, without an early exit. Marks are lent for the slots, of whatever bytes the lists hold.
+fn pass_over(
     m: u8,
     powers: &[u8; 1021],
     logs: &[u16; 512],
     c: Curve,
     xs: &[u8],
     ys: &[u8],
-    slots: &mut [u16],
-)
+    seen: &mut [u8],
+) -> Verdict
     requires { ⌜ Tables m (now powers) (now logs) ⌝ }
-    requires { ⌜ (length (now xs) ≡ length (now slots)) × (length (now ys) ≡ length (now slots)) ⌝ }
-    ensures { λ _. ⌜ now (slots .exit) ≡ table (slotAt (galois m) c (now (xs .entry)) (now (ys .entry))) (length (now (slots .entry))) ⌝ }
+    requires { ⌜ (length (now xs) ≡ length (now ys)) × (now seen ≡ replicate 512 0) ⌝ }
+    ensures { λ r. ⌜ (r .on ≡ all (isPoint (galois m) c) (pointsAt (now (xs .entry)) (now (ys .entry))))
+        × (r .apart ≡ different eqb (table (slotAt (galois m) c (now (xs .entry)) (now (ys .entry))) (length (now (xs .entry))))) ⌝ }
 {
+    let q = size(m);
+    let mut on = true;
+    let mut apart = true;
     let mut i = 0;
-    while i < slots.len() {
-        let p = Point { x: xs[i], y: ys[i] };
-        slots[i] = slot(m, powers, logs, c, p);
+    while i < xs.len() {
+        let x = xs[i];
+        let y = ys[i];
+        let p = Point { x: x, y: y };
+        on = on & is_point(m, powers, logs, c, q, p);
+        let s = slot(m, powers, logs, c, p);
+        apart = apart & (seen[s] != 1);
+        seen[s] = 1;
         i += 1;
+    }
+    Verdict {
+        on: on,
+        apart: apart,
     }
 }
 
-// No point is listed twice, by their slots, for which an array is lent.
-fn slots_differ(
-    m: u8,
-    powers: &[u8; 1021],
-    logs: &[u16; 512],
-    c: Curve,
-    xs: &[u8],
-    ys: &[u8],
-    slots: &mut [u16],
-) -> bool
+// The same with marks of its own.
+fn judge(m: u8, powers: &[u8; 1021], logs: &[u16; 512], c: Curve, xs: &[u8], ys: &[u8]) -> Verdict
     requires { ⌜ Tables m (now powers) (now logs) ⌝ }
-    requires { ⌜ Pointed m c (now xs) (now ys) × (length (now xs) ≤ length (now slots)) ⌝ }
-    ensures { λ r. ⌜ r ≡ different samePoint (pointsAt (now (xs .entry)) (now (ys .entry))) ⌝ }
+    requires { ⌜ length (now xs) ≡ length (now ys) ⌝ }
+    ensures { λ r. ⌜ (r .on ≡ all (isPoint (galois m) c) (pointsAt (now (xs .entry)) (now (ys .entry))))
+        × (r .apart ≡ different eqb (table (slotAt (galois m) c (now (xs .entry)) (now (ys .entry))) (length (now (xs .entry))))) ⌝ }
 {
-    let n = xs.len();
-    fill_slots(m, powers, logs, c, xs, ys, &mut slots[..n]);
-    all_different(&slots[..n])
-}
-
-fn points_differ(
-    m: u8,
-    powers: &[u8; 1021],
-    logs: &[u16; 512],
-    c: Curve,
-    xs: &[u8],
-    ys: &[u8],
-) -> bool
-    requires { ⌜ Tables m (now powers) (now logs) ⌝ }
-    requires { ⌜ Pointed m c (now xs) (now ys) × (length (now xs) ≤ 288) ⌝ }
-    ensures { λ r. ⌜ r ≡ different samePoint (pointsAt (now (xs .entry)) (now (ys .entry))) ⌝ }
-{
-    let mut slots = [0u16; 288];
-    slots_differ(m, powers, logs, c, xs, ys, &mut slots)
+    let mut seen = [0u8; 512];
+    pass_over(m, powers, logs, c, xs, ys, &mut seen)
 }
 
 fn right_count(xs: &[u8], ys: &[u8]) -> bool
@@ -163,10 +131,11 @@ fn test_points(
     if !right_count(xs, ys) {
         return Answer::Refused(Refusal::PointCount);
     }
-    if !all_on_curve(m, powers, logs, c, xs, ys) {
+    let found = judge(m, powers, logs, c, xs, ys);
+    if !found.on {
         return Answer::Refused(Refusal::OffCurve);
     }
-    if !points_differ(m, powers, logs, c, xs, ys) {
+    if !found.apart {
         return Answer::Refused(Refusal::RepeatedPoint);
     }
     if !right_dimension(p.k, xs.len()) {
@@ -175,7 +144,24 @@ fn test_points(
     Answer::Done
 }
 
-// The answer of the code test.
+// The code test where the field number is right: numbers 2 to 7. An operation makes the tables and passes them on.
+pub fn test_code_with(
+    p: Parameters,
+    powers: &[u8; 1021],
+    logs: &[u16; 512],
+    xs: &[u8],
+    ys: &[u8],
+) -> Answer
+    requires { ⌜ Tables (p .field) (now powers) (now logs) ⌝ }
+    ensures { λ r. ⌜ r ≡ codeAnswer (codeOf p (now (xs .entry)) (now (ys .entry))) ⌝ }
+{
+    if !coefficients_below(p.field, p.curve) {
+        return Answer::Refused(Refusal::CurveCoefficient);
+    }
+    test_points(p, powers, logs, xs, ys)
+}
+
+// The answer of the code test, for callers that need no tables.
 pub fn test_code(p: Parameters, xs: &[u8], ys: &[u8]) -> Answer
     ensures { λ r. ⌜ r ≡ codeAnswer (codeOf p (now (xs .entry)) (now (ys .entry))) ⌝ }
 {
@@ -183,8 +169,5 @@ pub fn test_code(p: Parameters, xs: &[u8], ys: &[u8]) -> Answer
     if !is_field(m) {
         return Answer::Refused(Refusal::FieldNumber);
     }
-    if !coefficients_below(m, p.curve) {
-        return Answer::Refused(Refusal::CurveCoefficient);
-    }
-    test_points(p, &powers(m), &logarithms(m), xs, ys)
+    test_code_with(p, &powers(m), &logarithms(m), xs, ys)
 }

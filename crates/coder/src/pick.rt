@@ -2,9 +2,10 @@
 use basics::Answer;
 use basics::MessageIndex;
 use basics::Refusal;
-use code::test::test_code;
+use code::test::test_code_with;
 use codewords::Parameters;
 use engine::places::chosen_place;
+use field::is_field;
 use field::logarithms;
 use field::powers;
 use solving::last_index::last_index;
@@ -73,12 +74,15 @@ fn pick_run(
 // Pick of lists that have the right lengths.
 fn pick_placed(
     p: Parameters,
+    powers: &[u8; 1021],
+    logs: &[u16; 512],
     xs: &[u8],
     ys: &[u8],
     ranked: &[u16],
     out: &mut [u16],
     work: &mut [u8],
 ) -> Answer
+    requires { ⌜ Tables (p .field) (now powers) (now logs) ⌝ }
     requires { ⌜ codeAnswer (codeOf p (now xs) (now ys)) ≡ Done ⌝ }
     requires { ⌜ (length (now out) ≡ p .k) × (room ≤ length (now work)) ⌝ }
     ensures { λ r. ⌜ Meets (pickPlaced (codeOf p (now (xs .entry)) (now (ys .entry))) (now (ranked .entry)) (now (work .entry))) r
@@ -86,8 +90,7 @@ fn pick_placed(
 {
     let tested = test_places(xs.len(), ranked);
     if let Answer::Done = tested {
-        let m = p.field;
-        return pick_run(p, &powers(m), &logarithms(m), xs, ys, ranked, out, work);
+        return pick_run(p, powers, logs, xs, ys, ranked, out, work);
     }
     tested
 }
@@ -95,12 +98,15 @@ fn pick_placed(
 // Pick of a code that passed the code test.
 fn pick_tested(
     p: Parameters,
+    powers: &[u8; 1021],
+    logs: &[u16; 512],
     xs: &[u8],
     ys: &[u8],
     ranked: &[u16],
     out: &mut [u16],
     work: &mut [u8],
 ) -> Answer
+    requires { ⌜ Tables (p .field) (now powers) (now logs) ⌝ }
     requires { ⌜ codeAnswer (codeOf p (now xs) (now ys)) ≡ Done ⌝ }
     ensures { λ r. ⌜ Meets (pickTested (codeOf p (now (xs .entry)) (now (ys .entry))) (now (ranked .entry)) (now (out .entry)) (now (work .entry))) r
         (now (out .entry), now (work .entry)) (now (out .exit), now (work .exit)) ⌝ }
@@ -114,7 +120,7 @@ fn pick_tested(
     if work.len() < ROOM {
         return Answer::Refused(Refusal::Length);
     }
-    pick_placed(p, xs, ys, ranked, out, work)
+    pick_placed(p, powers, logs, xs, ys, ranked, out, work)
 }
 
 // Of the ranked places the k that are kept.
@@ -129,9 +135,15 @@ pub fn pick(
     ensures { λ r. ⌜ Meets (pickOutcome (codeOf code (now (xs .entry)) (now (ys .entry))) (now (ranked .entry)) (now (out .entry)) (now (work .entry))) r
         (now (out .entry), now (work .entry)) (now (out .exit), now (work .exit)) ⌝ }
 {
-    let tested = test_code(code, xs, ys);
+    let m = code.field;
+    if !is_field(m) {
+        return Answer::Refused(Refusal::FieldNumber);
+    }
+    let powers = powers(m);
+    let logs = logarithms(m);
+    let tested = test_code_with(code, &powers, &logs, xs, ys);
     if let Answer::Done = tested {
-        return pick_tested(code, xs, ys, ranked, out, work);
+        return pick_tested(code, &powers, &logs, xs, ys, ranked, out, work);
     }
     tested
 }

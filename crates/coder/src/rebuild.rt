@@ -1,9 +1,12 @@
 // Rebuild: the codeword that agrees with the symbols at k places or more.
 use basics::Answer;
 use basics::Refusal;
-use code::test::test_code;
+use code::test::test_code_with;
 use codewords::Parameters;
 use engine::slices::copy;
+use field::is_field;
+use field::logarithms;
+use field::powers;
 use solving::prepare_word::prepare_word;
 use solving::words::agrees_at;
 use solving::work::ROOM;
@@ -13,6 +16,7 @@ ghost use Prim.Native.Nat.{_≤_};
 ghost use lib.ListN.{length};
 ghost use Rattle.basics.specs.Outcome.{Meets};
 ghost use Rattle.basics.specs.declared.Answer.the-variants.{Done};
+ghost use Rattle.field.specs.Tables.{Tables};
 ghost use Rattle.codewords.specs.Code.{codeOf, codeAnswer};
 ghost use Rattle.solving.specs.Tests.{room};
 ghost use Rattle.coder.specs.Outcomes.{rebuildOutcome};
@@ -21,6 +25,8 @@ ghost use Rattle.coder.specs.Stages.{rebuildRun, rebuildTested};
 // The tests from number 9 on, and then the result. An array is lent for the word.
 fn rebuild_run(
     p: Parameters,
+    powers: &[u8; 1021],
+    logs: &[u16; 512],
     xs: &[u8],
     ys: &[u8],
     places: &[u16],
@@ -29,12 +35,13 @@ fn rebuild_run(
     out: &mut [u8],
     work: &mut [u8],
 ) -> Answer
+    requires { ⌜ Tables (p .field) (now powers) (now logs) ⌝ }
     requires { ⌜ codeAnswer (codeOf p (now xs) (now ys)) ≡ Done ⌝ }
     requires { ⌜ (length (now symbols) ≡ length (now places)) × (length (now out) ≡ length (now xs)) × (room ≤ length (now work)) × (length (now f) ≡ length (now xs)) ⌝ }
     ensures { λ r. ⌜ Meets (rebuildRun (codeOf p (now (xs .entry)) (now (ys .entry))) (now (places .entry)) (now (symbols .entry)) (now (work .entry))) r
         (now (out .entry), now (work .entry)) (now (out .exit), now (work .exit)) ⌝ }
 {
-    let prepared = prepare_word(p, xs, ys, places, symbols, f);
+    let prepared = prepare_word(p, powers, logs, xs, ys, places, symbols, f);
     if let Answer::Done = prepared {
         if !agrees_at(f, places, symbols) {
             return Answer::Refused(Refusal::NoCodeword);
@@ -49,6 +56,8 @@ fn rebuild_run(
 // Rebuild of a code that passed the code test.
 fn rebuild_tested(
     p: Parameters,
+    powers: &[u8; 1021],
+    logs: &[u16; 512],
     xs: &[u8],
     ys: &[u8],
     places: &[u16],
@@ -56,6 +65,7 @@ fn rebuild_tested(
     out: &mut [u8],
     work: &mut [u8],
 ) -> Answer
+    requires { ⌜ Tables (p .field) (now powers) (now logs) ⌝ }
     requires { ⌜ codeAnswer (codeOf p (now xs) (now ys)) ≡ Done ⌝ }
     ensures { λ r. ⌜ Meets (rebuildTested (codeOf p (now (xs .entry)) (now (ys .entry))) (now (places .entry)) (now (symbols .entry)) (now (out .entry)) (now (work .entry))) r
         (now (out .entry), now (work .entry)) (now (out .exit), now (work .exit)) ⌝ }
@@ -74,7 +84,18 @@ fn rebuild_tested(
     }
     let n = xs.len();
     let mut f = [0u8; 288];
-    rebuild_run(p, xs, ys, places, symbols, &mut f[..n], out, work)
+    rebuild_run(
+        p,
+        powers,
+        logs,
+        xs,
+        ys,
+        places,
+        symbols,
+        &mut f[..n],
+        out,
+        work,
+    )
 }
 
 // The codeword that agrees with the symbols at all of the places.
@@ -90,9 +111,15 @@ pub fn rebuild(
     ensures { λ r. ⌜ Meets (rebuildOutcome (codeOf code (now (xs .entry)) (now (ys .entry))) (now (places .entry)) (now (symbols .entry)) (now (out .entry)) (now (work .entry))) r
         (now (out .entry), now (work .entry)) (now (out .exit), now (work .exit)) ⌝ }
 {
-    let tested = test_code(code, xs, ys);
+    let m = code.field;
+    if !is_field(m) {
+        return Answer::Refused(Refusal::FieldNumber);
+    }
+    let powers = powers(m);
+    let logs = logarithms(m);
+    let tested = test_code_with(code, &powers, &logs, xs, ys);
     if let Answer::Done = tested {
-        return rebuild_tested(code, xs, ys, places, symbols, out, work);
+        return rebuild_tested(code, &powers, &logs, xs, ys, places, symbols, out, work);
     }
     tested
 }

@@ -3,8 +3,11 @@ use basics::Answer;
 use basics::MessageIndex;
 use basics::Place;
 use basics::Refusal;
-use code::test::test_code;
+use code::test::test_code_with;
 use codewords::Parameters;
+use field::is_field;
+use field::logarithms;
+use field::powers;
 use interpolation::write::write_function;
 use solving::prepare::prepare;
 use solving::words::agrees_all;
@@ -16,6 +19,7 @@ ghost use lib.ListN.{length};
 ghost use Rattle.basics.specs.Lists.{table};
 ghost use Rattle.basics.specs.Outcome.{Meets};
 ghost use Rattle.basics.specs.declared.Answer.the-variants.{Done};
+ghost use Rattle.field.specs.Tables.{Tables};
 ghost use Rattle.codewords.specs.Code.{codeOf, codeAnswer};
 ghost use Rattle.solving.specs.Tests.{room};
 ghost use Rattle.coder.specs.Outcomes.{recoverOutcome};
@@ -45,6 +49,8 @@ fn fill_places(places: &mut [u16])
 // The tests from number 11 on, and then the result. An array is lent for the function.
 fn recover_run(
     p: Parameters,
+    powers: &[u8; 1021],
+    logs: &[u16; 512],
     xs: &[u8],
     ys: &[u8],
     places: &[u16],
@@ -53,14 +59,15 @@ fn recover_run(
     out: &mut [u8],
     work: &mut [u8],
 ) -> Answer
+    requires { ⌜ Tables (p .field) (now powers) (now logs) ⌝ }
     requires { ⌜ codeAnswer (codeOf p (now xs) (now ys)) ≡ Done ⌝ }
     requires { ⌜ (now places ≡ table placeAt (length (now xs))) × (length (now symbols) ≡ length (now xs)) × (length (now out) ≡ p .k) × (room ≤ length (now work)) × (292 ≤ length (now f)) ⌝ }
     ensures { λ r. ⌜ Meets (recoverRun (codeOf p (now (xs .entry)) (now (ys .entry))) (now (symbols .entry)) (now (work .entry))) r
         (now (out .entry), now (work .entry)) (now (out .exit), now (work .exit)) ⌝ }
 {
-    let prepared = prepare(p, xs, ys, places, symbols, f);
+    let prepared = prepare(p, powers, logs, xs, ys, places, symbols, f);
     if let Answer::Done = prepared {
-        if !agrees_all(p, xs, ys, places, symbols, f) {
+        if !agrees_all(p, powers, logs, xs, ys, places, symbols, f) {
             return Answer::Refused(Refusal::NoCodeword);
         }
         write_function(f, p.k, out);
@@ -73,6 +80,8 @@ fn recover_run(
 // The same, with an array for the places.
 fn recover_at(
     p: Parameters,
+    powers: &[u8; 1021],
+    logs: &[u16; 512],
     xs: &[u8],
     ys: &[u8],
     places: &mut [u16],
@@ -81,6 +90,7 @@ fn recover_at(
     out: &mut [u8],
     work: &mut [u8],
 ) -> Answer
+    requires { ⌜ Tables (p .field) (now powers) (now logs) ⌝ }
     requires { ⌜ codeAnswer (codeOf p (now xs) (now ys)) ≡ Done ⌝ }
     requires { ⌜ (288 ≤ length (now places)) × (length (now symbols) ≡ length (now xs)) × (length (now out) ≡ p .k) × (room ≤ length (now work)) × (292 ≤ length (now f)) ⌝ }
     ensures { λ r. ⌜ Meets (recoverRun (codeOf p (now (xs .entry)) (now (ys .entry))) (now (symbols .entry)) (now (work .entry))) r
@@ -88,18 +98,21 @@ fn recover_at(
 {
     let n = xs.len();
     fill_places(&mut places[..n]);
-    recover_run(p, xs, ys, &places[..n], symbols, f, out, work)
+    recover_run(p, powers, logs, xs, ys, &places[..n], symbols, f, out, work)
 }
 
 // Recover of a code that passed the code test.
 fn recover_tested(
     p: Parameters,
+    powers: &[u8; 1021],
+    logs: &[u16; 512],
     xs: &[u8],
     ys: &[u8],
     symbols: &[u8],
     out: &mut [u8],
     work: &mut [u8],
 ) -> Answer
+    requires { ⌜ Tables (p .field) (now powers) (now logs) ⌝ }
     requires { ⌜ codeAnswer (codeOf p (now xs) (now ys)) ≡ Done ⌝ }
     ensures { λ r. ⌜ Meets (recoverTested (codeOf p (now (xs .entry)) (now (ys .entry))) (now (symbols .entry)) (now (out .entry)) (now (work .entry))) r
         (now (out .entry), now (work .entry)) (now (out .exit), now (work .exit)) ⌝ }
@@ -115,7 +128,18 @@ fn recover_tested(
     }
     let mut places = [0u16; 288];
     let mut f = [0u8; 292];
-    recover_at(p, xs, ys, &mut places, symbols, &mut f, out, work)
+    recover_at(
+        p,
+        powers,
+        logs,
+        xs,
+        ys,
+        &mut places,
+        symbols,
+        &mut f,
+        out,
+        work,
+    )
 }
 
 // The k coefficients of the codeword.
@@ -130,9 +154,15 @@ pub fn recover(
     ensures { λ r. ⌜ Meets (recoverOutcome (codeOf code (now (xs .entry)) (now (ys .entry))) (now (symbols .entry)) (now (out .entry)) (now (work .entry))) r
         (now (out .entry), now (work .entry)) (now (out .exit), now (work .exit)) ⌝ }
 {
-    let tested = test_code(code, xs, ys);
+    let m = code.field;
+    if !is_field(m) {
+        return Answer::Refused(Refusal::FieldNumber);
+    }
+    let powers = powers(m);
+    let logs = logarithms(m);
+    let tested = test_code_with(code, &powers, &logs, xs, ys);
     if let Answer::Done = tested {
-        return recover_tested(code, xs, ys, symbols, out, work);
+        return recover_tested(code, &powers, &logs, xs, ys, symbols, out, work);
     }
     tested
 }

@@ -2,9 +2,10 @@
 use basics::Answer;
 use basics::MessageIndex;
 use basics::Refusal;
-use code::test::test_code;
+use code::test::test_code_with;
 use codewords::Parameters;
 use engine::places::chosen_place;
+use field::is_field;
 use field::logarithms;
 use field::powers;
 use interpolation::interpolate::run_pair;
@@ -59,12 +60,15 @@ fn relation_run(
 // Relation of lists that have the right lengths.
 fn relation_placed(
     p: Parameters,
+    powers: &[u8; 1021],
+    logs: &[u16; 512],
     xs: &[u8],
     ys: &[u8],
     places: &[u16],
     out: &mut [u8],
     work: &mut [u8],
 ) -> Answer
+    requires { ⌜ Tables (p .field) (now powers) (now logs) ⌝ }
     requires { ⌜ codeAnswer (codeOf p (now xs) (now ys)) ≡ Done ⌝ }
     requires { ⌜ (length (now places) ≡ p .k) × (length (now out) ≡ p .k) × (room ≤ length (now work)) ⌝ }
     ensures { λ r. ⌜ Meets (relationPlaced (codeOf p (now (xs .entry)) (now (ys .entry))) (now (places .entry)) (now (work .entry))) r
@@ -72,21 +76,9 @@ fn relation_placed(
 {
     let tested = test_places(xs.len(), places);
     if let Answer::Done = tested {
-        let m = p.field;
         let mut l = [0u8; 292];
         let mut u = [0u8; 292];
-        return relation_run(
-            p,
-            &powers(m),
-            &logarithms(m),
-            xs,
-            ys,
-            places,
-            &mut l,
-            &mut u,
-            out,
-            work,
-        );
+        return relation_run(p, powers, logs, xs, ys, places, &mut l, &mut u, out, work);
     }
     tested
 }
@@ -94,12 +86,15 @@ fn relation_placed(
 // Relation of a code that passed the code test.
 fn relation_tested(
     p: Parameters,
+    powers: &[u8; 1021],
+    logs: &[u16; 512],
     xs: &[u8],
     ys: &[u8],
     places: &[u16],
     out: &mut [u8],
     work: &mut [u8],
 ) -> Answer
+    requires { ⌜ Tables (p .field) (now powers) (now logs) ⌝ }
     requires { ⌜ codeAnswer (codeOf p (now xs) (now ys)) ≡ Done ⌝ }
     ensures { λ r. ⌜ Meets (relationTested (codeOf p (now (xs .entry)) (now (ys .entry))) (now (places .entry)) (now (out .entry)) (now (work .entry))) r
         (now (out .entry), now (work .entry)) (now (out .exit), now (work .exit)) ⌝ }
@@ -113,7 +108,7 @@ fn relation_tested(
     if work.len() < ROOM {
         return Answer::Refused(Refusal::Length);
     }
-    relation_placed(p, xs, ys, places, out, work)
+    relation_placed(p, powers, logs, xs, ys, places, out, work)
 }
 
 // The k coefficients of the function that is zero at all k places.
@@ -128,9 +123,15 @@ pub fn relation(
     ensures { λ r. ⌜ Meets (relationOutcome (codeOf code (now (xs .entry)) (now (ys .entry))) (now (places .entry)) (now (out .entry)) (now (work .entry))) r
         (now (out .entry), now (work .entry)) (now (out .exit), now (work .exit)) ⌝ }
 {
-    let tested = test_code(code, xs, ys);
+    let m = code.field;
+    if !is_field(m) {
+        return Answer::Refused(Refusal::FieldNumber);
+    }
+    let powers = powers(m);
+    let logs = logarithms(m);
+    let tested = test_code_with(code, &powers, &logs, xs, ys);
     if let Answer::Done = tested {
-        return relation_tested(code, xs, ys, places, out, work);
+        return relation_tested(code, &powers, &logs, xs, ys, places, out, work);
     }
     tested
 }

@@ -1,9 +1,12 @@
 // Systematic word: the codeword that agrees with a message at k places.
 use basics::Answer;
 use basics::Refusal;
-use code::test::test_code;
+use code::test::test_code_with;
 use codewords::Parameters;
 use engine::slices::copy;
+use field::is_field;
+use field::logarithms;
+use field::powers;
 use solving::prepare_word::prepare_word;
 use solving::work::ROOM;
 use solving::work::clear_room;
@@ -12,6 +15,7 @@ ghost use Prim.Native.Nat.{_≤_};
 ghost use lib.ListN.{length};
 ghost use Rattle.basics.specs.Outcome.{Meets};
 ghost use Rattle.basics.specs.declared.Answer.the-variants.{Done};
+ghost use Rattle.field.specs.Tables.{Tables};
 ghost use Rattle.codewords.specs.Code.{codeOf, codeAnswer};
 ghost use Rattle.solving.specs.Tests.{room};
 ghost use Rattle.coder.specs.Outcomes.{systematicWordOutcome};
@@ -20,6 +24,8 @@ ghost use Rattle.coder.specs.Stages.{wordRun, wordTested};
 // The tests from number 9 on, and then the result. An array is lent for the word.
 fn systematic_word_run(
     p: Parameters,
+    powers: &[u8; 1021],
+    logs: &[u16; 512],
     xs: &[u8],
     ys: &[u8],
     places: &[u16],
@@ -28,12 +34,13 @@ fn systematic_word_run(
     out: &mut [u8],
     work: &mut [u8],
 ) -> Answer
+    requires { ⌜ Tables (p .field) (now powers) (now logs) ⌝ }
     requires { ⌜ codeAnswer (codeOf p (now xs) (now ys)) ≡ Done ⌝ }
     requires { ⌜ (length (now places) ≡ p .k) × (length (now symbols) ≡ p .k) × (length (now out) ≡ length (now xs)) × (room ≤ length (now work)) × (length (now f) ≡ length (now xs)) ⌝ }
     ensures { λ r. ⌜ Meets (wordRun (codeOf p (now (xs .entry)) (now (ys .entry))) (now (places .entry)) (now (symbols .entry)) (now (work .entry))) r
         (now (out .entry), now (work .entry)) (now (out .exit), now (work .exit)) ⌝ }
 {
-    let prepared = prepare_word(p, xs, ys, places, symbols, f);
+    let prepared = prepare_word(p, powers, logs, xs, ys, places, symbols, f);
     if let Answer::Done = prepared {
         copy(f, xs.len(), out);
         clear_room(work);
@@ -45,6 +52,8 @@ fn systematic_word_run(
 // Systematic word of a code that passed the code test.
 fn systematic_word_tested(
     p: Parameters,
+    powers: &[u8; 1021],
+    logs: &[u16; 512],
     xs: &[u8],
     ys: &[u8],
     places: &[u16],
@@ -52,6 +61,7 @@ fn systematic_word_tested(
     out: &mut [u8],
     work: &mut [u8],
 ) -> Answer
+    requires { ⌜ Tables (p .field) (now powers) (now logs) ⌝ }
     requires { ⌜ codeAnswer (codeOf p (now xs) (now ys)) ≡ Done ⌝ }
     ensures { λ r. ⌜ Meets (wordTested (codeOf p (now (xs .entry)) (now (ys .entry))) (now (places .entry)) (now (symbols .entry)) (now (out .entry)) (now (work .entry))) r
         (now (out .entry), now (work .entry)) (now (out .exit), now (work .exit)) ⌝ }
@@ -70,7 +80,18 @@ fn systematic_word_tested(
     }
     let n = xs.len();
     let mut f = [0u8; 288];
-    systematic_word_run(p, xs, ys, places, symbols, &mut f[..n], out, work)
+    systematic_word_run(
+        p,
+        powers,
+        logs,
+        xs,
+        ys,
+        places,
+        symbols,
+        &mut f[..n],
+        out,
+        work,
+    )
 }
 
 // The codeword that agrees with the message at the places.
@@ -86,9 +107,15 @@ pub fn systematic_word(
     ensures { λ r. ⌜ Meets (systematicWordOutcome (codeOf code (now (xs .entry)) (now (ys .entry))) (now (places .entry)) (now (symbols .entry)) (now (out .entry)) (now (work .entry))) r
         (now (out .entry), now (work .entry)) (now (out .exit), now (work .exit)) ⌝ }
 {
-    let tested = test_code(code, xs, ys);
+    let m = code.field;
+    if !is_field(m) {
+        return Answer::Refused(Refusal::FieldNumber);
+    }
+    let powers = powers(m);
+    let logs = logarithms(m);
+    let tested = test_code_with(code, &powers, &logs, xs, ys);
     if let Answer::Done = tested {
-        return systematic_word_tested(code, xs, ys, places, symbols, out, work);
+        return systematic_word_tested(code, &powers, &logs, xs, ys, places, symbols, out, work);
     }
     tested
 }

@@ -22,6 +22,10 @@ pub index-most : (k : ℕ) (b : Bool) → cond b k (k - 1) ≤ k
 index-most k true = omega arith
 index-most k false = omega arith
 
+pub index-least : (k : ℕ) (b : Bool) → k - 1 ≤ cond b k (k - 1)
+index-least k true = omega arith
+index-least k false = omega arith
+
 module _ {code : Code} {J : List ℕ} (p : Placed code J) (us : List ℕ) (s : symbols code us ≡ true) (h : code .k ≤ length J) {z : Bool}
     (e : z ≡ lastZero (arithmetic code) (code .k) (pointsOf code J) us) where
   abbrev index : Bool → ℕ

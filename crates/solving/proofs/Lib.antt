@@ -2,5 +2,7 @@
 pub mod Link
 pub mod Free
 pub mod Gathered
+pub mod Arranged
+pub mod Restored
 pub mod Interpolant
 pub mod Chains

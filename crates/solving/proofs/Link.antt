@@ -29,7 +29,7 @@ use Rattle.engine.specs.Arrays.{Pair, Small}
 use Rattle.engine.specs.Places.{pointOf, pointsOf, Chosen, Within, Runs}
 use Rattle.engine.proofs.States.{low-value}
 use Rattle.engine.proofs.Runs.{point-at, within-all, runs, small-after}
-use Rattle.values.specs.Values.{ShownIn, Coordinates}
+use Rattle.values.specs.Values.{Coordinates}
 use Rattle.solving.specs.Given.{Placed, Posed}
 
 -- places are below 512, so that marks can be kept for them
@@ -127,7 +127,7 @@ module _ {code : Code} {J : List ℕ} (p : Placed code J) where
     pub sizes : (i : ℕ) → i ≤ length J → steps.Sizes F i (after F pts us i)
     sizes i h = rw points-same (steps.after-sizes (laws code accepted) (different-points code accepted are-places) (symbols-true code us s) i (omega (arith, length-points code J)))
 
-    -- whether L is zero at the last of k places: by its value there, by its coefficients, and by its values at all points
+    -- whether L is zero at the last of k places: by its value there, and by its coefficients
     pub zero-by : {v : ℕ} {r : Bool} → code .k ≤ length J → v ≡ evaluate F (after F pts us (code .k - 1) .low) (pointOf (code .xs) (code .ys) (getD J (code .k - 1) 0)) → r ≡ eqb v 0
         → r ≡ lastZero F (code .k) (pointsIn code J) us
     unfolding lastZero
@@ -140,11 +140,6 @@ module _ {code : Code} {J : List ℕ} (p : Placed code J) where
         → r ≡ lastZero F (code .k) (pointsIn code J) us
     zero-last {a = a} h q d e =
         zero-by h (low-value q F (pointOf (code .xs) (code .ys) a) ∙ ap (λ a. evaluate F (after F pts us (code .k - 1) .low) (pointOf (code .xs) (code .ys) a)) d) e
-
-    pub zero-shown : (l u : List ℕ) (z : Sizes) {a : ℕ} {r : Bool} → code .k ≤ length J → ShownIn (code .field) (code .xs) (code .ys) 0 l u z (after F pts us (code .k - 1))
-        → a ≡ getD J (code .k - 1) 0 → r ≡ eqb (getD (cond (z .turned) u l) (a - 1) 0) 0 → r ≡ lastZero F (code .k) (pointsIn code J) us
-    zero-shown l u z h q d e =
-        zero-by h (ap (λ a. getD (cond (z .turned) u l) (a - 1) 0) d ∙ q .low-values .at (getD J (code .k - 1) 0 - 1) (omega arith) (index-in (code .k - 1) (omega (arith, accepted .k-least)))) e
 
     pub is-dependent : {r : Bool} → length J ≡ code .k → r ≡ lastZero F (code .k) (pointsIn code J) us → dependent code J ≡ r
     is-dependent e h = computed code (p .done) .dependent-by J us (is-choice e) s ∙ sym h

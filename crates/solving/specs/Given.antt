@@ -1,5 +1,5 @@
 -- What an operation has in hand once its tests have passed, and what it solves for.
-use Prim.Native.Nat.{ℕ, _-_, _≤_}
+use Prim.Native.Nat.{ℕ, _≤_}
 use mathlib.Core.Path.{_≡_}
 use mathlib.Core.Bool.{Bool, true, not, _&&_}
 use mathlib.Core.List.{List, map}
@@ -8,12 +8,14 @@ use lib.Bits.{bitXor}
 use lib.ListN.{length, getD}
 use Rattle.basics.specs.declared.Answer.{Answer}
 use Rattle.basics.specs.declared.Answer.the-variants.{Done}
-use Rattle.basics.specs.Lists.{Holds}
+use Rattle.basics.specs.Lists.{Holds, table}
 use Rattle.field.specs.Galois.{product, inverse}
 use Rattle.elliptic.specs.Pair.{evaluate}
 use Rattle.codewords.specs.Code.{Code, arithmetic, points, codeAnswer}
 use Rattle.codewords.specs.Codewords.{allPlaces, placesDiffer, symbols, dependent, usable}
 use Rattle.codewords.specs.Computed.{solution}
+use Rattle.values.specs.Values.{one}
+use Rattle.arrangement.specs.Arranged.{Arranged}
 use Rattle.solving.specs.Tests.{posedAnswer}
 
 -- different places of an accepted code
@@ -35,9 +37,15 @@ pub record Posed (code : Code) (J us : List ℕ) : Type 0 where
   pub lengths : length us ≡ length J
   pub at-least : code .k ≤ length J
 
--- the multiple of l that f gains to be v at the place p, by their values at all points
+-- the points with those at the places first, and L = 1 and U = Y by their values there
+pub record Laid (code : Code) (J px l u : List ℕ) : Type 0 where
+  pub firsts : Arranged (code .xs) J (length J) px
+  pub seconds : Arranged (code .ys) J (length J) u
+  pub ones : l ≡ table one (length u)
+
+-- the multiple of l that f gains to be v at the point with index j, by their values
 abbrev pub missing : ℕ → ℕ → ℕ → List ℕ → List ℕ → ℕ
-missing m p v l f = product m (bitXor v (getD f (p - 1) 0)) (inverse m (getD l (p - 1) 0))
+missing m j v l f = product m (bitXor v (getD f j 0)) (inverse m (getD l j 0))
 
 -- whether there is something to solve for, and then it is where the claim says
 pub record Solving (code : Code) (J : List ℕ) (claim : Type 0) (r : Bool) : Type 0 where

@@ -3,6 +3,7 @@ pub mod last_index;
 pub mod last_zero;
 pub mod prepare;
 pub mod prepare_word;
+pub mod restore;
 pub mod solve;
 pub mod solve_word;
 pub mod tests;

@@ -2,12 +2,11 @@
 use basics::MessageIndex;
 use basics::Place;
 use engine::pair::Sizes;
-use engine::places::index_of;
 use engine::places::point_at;
 use interpolation::interpolate::low_at;
 ghost use mathlib.Core.Path.{_≡_};
 ghost use mathlib.Core.Bool.{cond};
-ghost use Prim.Native.Nat.{_-_, _<_, _≤_};
+ghost use Prim.Native.Nat.{_<_};
 ghost use lib.Dec.{eqb};
 ghost use lib.ListN.{length, take, getD};
 ghost use Rattle.field.specs.Galois.{galois};
@@ -46,14 +45,6 @@ fn zero_value(j: usize, l: &[u8], u: &[u8], n: Sizes) -> bool
         return u[j] == 0;
     }
     l[j] == 0
-}
-
-// L, by its values at all points, is zero at the place.
-pub fn zero_in(place: Place, l: &[u8], u: &[u8], n: Sizes) -> bool
-    requires { ⌜ (1 ≤ place .0) × (place .0 - 1 < length (now l)) × (place .0 - 1 < length (now u)) ⌝ }
-    ensures { λ r. ⌜ r ≡ eqb (getD (cond (n .turned) (now (u .entry)) (now (l .entry))) (place .0 - 1) 0) 0 ⌝ }
-{
-    zero_value(index_of(place), l, u, n)
 }
 
 // L, by its values at the chosen points, is zero at the one of the message index.

@@ -1,11 +1,11 @@
 -- Where a run begins, and what one more point of a list adds to it.
-use Prim.Native.Nat.{ℕ, _+_, _<_, _≤_}
+use Prim.Native.Nat.{ℕ, _+_, _<_}
 use mathlib.Core.Path.{_≡_, refl, sym, _∙_, ap}
-use mathlib.Core.Bool.{false, cond}
-use mathlib.Core.List.{List, [], _∷_}
+use mathlib.Core.Bool.{false}
+use mathlib.Core.List.{List, []}
 use native.Mathlib.Numerals.{add-one}
 use native.Mathlib.Omega.{arith}
-use lib.ListN.{length, getD, replicate, length-replicate}
+use lib.ListN.{length, getD, replicate}
 use Rattle.basics.specs.Lists.{table}
 use Rattle.basics.proofs.Lists.{length-table, getD-table, getD-zeros}
 use Rattle.field.specs.Sum.{_⊕_}
@@ -18,9 +18,7 @@ use Rattle.elliptic.specs.Curve.{point}
 use Rattle.elliptic.specs.Pair.{State, horner, evaluate, start, step, after}
 use Rattle.engine.specs.declared.pair.Sizes.{Sizes}
 use Rattle.engine.specs.Arrays.{Small}
-use Rattle.engine.specs.Places.{pointOf, pointsOf}
-use Rattle.engine.proofs.Runs.{after-more}
-use Rattle.values.specs.Values.{Shows, Shown, ShownIn, Steps, WordSteps, Fits, Coordinates, RunsFirst, pointsIn, one}
+use Rattle.values.specs.Values.{Shows, ShownIn, Fits, Coordinates, pointsIn, one}
 
 -- ---- L = 1 and U = Y, and the interpolant 0
 
@@ -43,12 +41,16 @@ module _ {F : Arithmetic} (K : Field F) where
   unfolding evaluate horner
   start-high P h = y-value (P .x) (P .y) ∙ one-mul (P .y) h
 
+module _ {m : ℕ} {xs ys : List ℕ} (c : Coordinates m xs ys) where
+  pub begun-size : {l : List ℕ} → l ≡ table one (length ys) → length l ≡ length xs
+  begun-size e = ap length e ∙ length-table one (length ys) ∙ c .as-many
+
 module _ {m : ℕ} (k : IsField m) {xs ys : List ℕ} (c : Coordinates m xs ys) where
   pub begins : {l u : List ℕ} {n : Sizes} → n .low ≡ 1 → n .high ≡ 3 → n .turned ≡ false → l ≡ table one (length ys) → u ≡ ys → ShownIn m xs ys 0 l u n start
   begins {l} {u} {n} e f g p r =
       rw (e, f, g) (record {
         low-values = record {
-          size = rw p (length-table one (length ys)) ∙ c .as-many;
+          size = begun-size c p;
           at = λ i a b. rw p (getD-table one (length ys) i 0 (omega (arith, c .as-many))) ∙ sym (start-low (galois-field k) (point (getD xs i 0) (getD ys i 0)));
         };
         high-values = record {
@@ -69,6 +71,12 @@ module _ {m : ℕ} (k : IsField m) {xs ys : List ℕ} (c : Coordinates m xs ys) 
 pub fits : {m d : ℕ} {xs ys a b : List ℕ} {n : Sizes} {s : State} → length a ≡ length xs → length b ≡ length xs → Small s → ShownIn m xs ys d a b n s → Fits xs a b n
 fits p q small h = record { first = p; second = q; low-room = omega (arith, h .low-size, small .low-room); high-room = omega (arith, h .high-size, small .high-room) }
 
-pub first-more : (m : ℕ) (xs ys : List ℕ) (i : ℕ) → i < length xs → step (galois m) (point (getD xs i 0) (getD ys i 0)) 0 (after (galois m) (pointsIn xs ys) [] i) ≡ after (galois m) (pointsIn xs ys) [] (i + 1)
-unfolding after
-first-more m xs ys i h = rw (add-one, getD-table (λ i. point (getD xs i 0) (getD ys i 0)) (length xs) i (point 0 0) h)
+-- one point more of a list
+module _ (m : ℕ) (xs ys : List ℕ) where
+  pub point-more : (us : List ℕ) (i : ℕ) → i < length xs
+      → step (galois m) (point (getD xs i 0) (getD ys i 0)) (getD us i 0) (after (galois m) (pointsIn xs ys) us i) ≡ after (galois m) (pointsIn xs ys) us (i + 1)
+  unfolding after
+  point-more us i h = rw (add-one, getD-table (λ i. point (getD xs i 0) (getD ys i 0)) (length xs) i (point 0 0) h)
+
+  pub first-more : (i : ℕ) → i < length xs → step (galois m) (point (getD xs i 0) (getD ys i 0)) 0 (after (galois m) (pointsIn xs ys) [] i) ≡ after (galois m) (pointsIn xs ys) [] (i + 1)
+  first-more i h = point-more [] i h

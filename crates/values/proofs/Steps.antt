@@ -15,12 +15,11 @@ use Rattle.field.specs.Galois.{IsField, galois, product, inverse}
 use Rattle.field.proofs.Galois.{galois-field}
 use Rattle.elliptic.specs.Curve.{point}
 use Rattle.elliptic.specs.declared.Point.{Point}
-use Rattle.elliptic.specs.Pair.{State, growth, evaluate, addScaled, raised, held, corrected, cancelled, stepped, kept, step}
+use Rattle.elliptic.specs.Pair.{State, growth, evaluate, addScaled, raised, held, corrected, cancelled, stepped, kept}
 use Rattle.elliptic.proofs.Function.{evaluate-add, length-add, length-add-longer}
 use Rattle.elliptic.proofs.Products.{evaluate-raised-some, length-raised}
 use Rattle.engine.specs.declared.pair.Sizes.{Sizes}
 use Rattle.engine.specs.Arrays.{Small, Ordered}
-use Rattle.engine.specs.Places.{valueAt}
 use Rattle.engine.proofs.States.{step-zero, step-other}
 use Rattle.engine.proofs.Runs.{step-word}
 use Rattle.values.specs.Values.{Swept, raisedAt, gainedAt, Shows, Shown, ShownIn, Steps, Passes, WordSteps}
@@ -155,34 +154,35 @@ steps-round {a = a} {b} {r} {k} h p = record { first-size = p .second-size; seco
 -- ---- the interpolant
 
 -- it gains the multiple of g that makes it v at the point
-pub corrects : {m : ℕ} (k : IsField m) (xs ys g w : List ℕ) {j : ℕ} (v : ℕ) → j < length xs → {a f z : List ℕ} (e : ℕ) → e ≡ product m (bitXor v (getD f j 0)) (inverse m (getD a j 0))
-    → Shows m xs ys 0 g a → Shows m xs ys 0 w f → Swept (gainedAt m e a f) 0 f z → Shows m xs ys 0 (corrected (galois m) (point (getD xs j 0) (getD ys j 0)) v g w) z
+pub corrects : {m : ℕ} (k : IsField m) (xs ys g w : List ℕ) {d j : ℕ} (v : ℕ) {n : ℕ} → d ≤ j → d ≤ n → j < length xs → {a f z : List ℕ} (e : ℕ)
+    → e ≡ product m (bitXor v (getD f j 0)) (inverse m (getD a j 0)) → Shows m xs ys d g a → Shows m xs ys d w f → Swept (gainedAt m e a f) n f z
+    → Shows m xs ys n (corrected (galois m) (point (getD xs j 0) (getD ys j 0)) v g w) z
 unfolding corrected _⊕_
-corrects k xs ys g w {j} v inside e q x y s = rw (← x .at j (omega arith) inside, ← y .at j (omega arith) inside, ← q) (shows-gained k xs ys e (omega arith) x y s)
+corrects k xs ys g w {j = j} v before later inside e q x y s = rw (← x .at j before inside, ← y .at j before inside, ← q) (shows-gained k xs ys e later x y s)
 
-module _ {m : ℕ} (k : IsField m) {xs : List ℕ} {j : ℕ} (v : ℕ) (inside : j < length xs) {f : List ℕ} (size : length f ≡ length xs)
-    {l u a b g : List ℕ} {low high : ℕ} {r : Sizes} (p : Steps m xs j 0 l u low high a b r) (e : ℕ) where
-  pub word-keeps : getD l j 0 ≡ 0 → e ≡ product m (bitXor v (getD f j 0)) (inverse m (getD u j 0)) → Swept (gainedAt m e u f) 0 f g → WordSteps m xs j v l u f low high a b g r
+module _ {m : ℕ} (k : IsField m) {xs : List ℕ} {j n : ℕ} (v : ℕ) (inside : j < length xs) {f : List ℕ} (size : length f ≡ length xs)
+    {l u a b g : List ℕ} {low high : ℕ} {r : Sizes} (p : Steps m xs j n l u low high a b r) (e : ℕ) where
+  pub word-keeps : getD l j 0 ≡ 0 → e ≡ product m (bitXor v (getD f j 0)) (inverse m (getD u j 0)) → Swept (gainedAt m e u f) n f g → WordSteps m xs j n v l u f low high a b g r
   unfolding kept
   word-keeps z q s =
       record {
         pair = p;
         word-size = s .size ∙ size;
-        next = λ ys t h w.
-            rw (← step-zero (galois m) (point (getD xs j 0) (getD ys j 0)) v t (h .low-values .at j (omega arith) inside) z)
-            (corrects k xs ys (t .high) (t .word) v inside e q (h .high-values) w s);
+        next = λ ys d t before later h w.
+            rw (← step-zero (galois m) (point (getD xs j 0) (getD ys j 0)) v t (h .low-values .at j before inside) z)
+            (corrects k xs ys (t .high) (t .word) v before later inside e q (h .high-values) w s);
       }
 
-  pub word-steps : (getD l j 0 ≡ 0 → ⊥) → e ≡ product m (bitXor v (getD f j 0)) (inverse m (getD l j 0)) → Swept (gainedAt m e l f) 0 f g → WordSteps m xs j v l u f low high a b g r
+  pub word-steps : (getD l j 0 ≡ 0 → ⊥) → e ≡ product m (bitXor v (getD f j 0)) (inverse m (getD l j 0)) → Swept (gainedAt m e l f) n f g → WordSteps m xs j n v l u f low high a b g r
   word-steps z q s =
       record {
         pair = p;
         word-size = s .size ∙ size;
-        next = λ ys t h w.
-            rw (step-word (galois m) (point (getD xs j 0) (getD ys j 0)) v t (λ y. z (h .low-values .at j (omega arith) inside ∙ y)))
-            (corrects k xs ys (t .low) (t .word) v inside e q (h .low-values) w s);
+        next = λ ys d t before later h w.
+            rw (step-word (galois m) (point (getD xs j 0) (getD ys j 0)) v t (λ y. z (h .low-values .at j before inside ∙ y)))
+            (corrects k xs ys (t .low) (t .word) v before later inside e q (h .low-values) w s);
       }
 
-pub words-round : {m j v low high : ℕ} {xs l u f a b g : List ℕ} {r k : Sizes} → (k .low ≡ r .low) × (k .high ≡ r .high) × (k .turned ≡ not (r .turned))
-    → WordSteps m xs j v l u f low high b a g r → WordSteps m xs j v l u f low high a b g k
+pub words-round : {m j e v low high : ℕ} {xs l u f a b g : List ℕ} {r k : Sizes} → (k .low ≡ r .low) × (k .high ≡ r .high) × (k .turned ≡ not (r .turned))
+    → WordSteps m xs j e v l u f low high b a g r → WordSteps m xs j e v l u f low high a b g k
 words-round h p = record { pair = steps-round h (p .pair); word-size = p .word-size; next = p .next }

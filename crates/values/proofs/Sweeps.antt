@@ -1,6 +1,6 @@
 -- A pass from an index on: what is behind it is by the rule, what is before it as it was.
 use Prim.Native.Nat.{ℕ, zero, suc, _+_, _<_, _≤_}
-use mathlib.Core.Path.{_≡_, refl, sym, _∙_, ap}
+use mathlib.Core.Path.{_≡_, refl, _∙_}
 use mathlib.Core.List.{List, [], _∷_}
 use native.Mathlib.Decide.{ℕ-discrete}
 use native.Mathlib.Omega.{arith}
@@ -44,9 +44,9 @@ unfolding _⊕_
 gained-by m t h {i = i} s e q = rw (q, e, s .rest i (omega arith))
 
 -- f + t·h of values is a gain at every point
-pub swept-add : (m t : ℕ) (h f : List ℕ) → length h ≡ length f → Swept (gainedAt m t h f) 0 f (addScaled (galois m) t h f)
+pub swept-add : (m t d : ℕ) (h f : List ℕ) → length h ≡ length f → Swept (gainedAt m t h f) d f (addScaled (galois m) t h f)
 unfolding addScaled
-swept-add m t h f e = record { size = length-add (galois m) t h f (omega arith); at = λ i a b. go h f i e b }
+swept-add m t d h f e = record { size = length-add (galois m) t h f (omega arith); at = λ i a b. go h f i e b }
   where
     go : (h f : List ℕ) (i : ℕ) → length h ≡ length f → i < length f → getD (addScaled (galois m) t h f) i 0 ≡ gainedAt m t h f i
     go [] [] i e l = absurd (omega arith)

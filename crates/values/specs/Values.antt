@@ -62,21 +62,24 @@ pub record Passes (m : ℕ) (xs : List ℕ) (j e : ℕ) (l u a b : List ℕ) : T
   pub raised-low : (getD l j 0 ≡ 0 → ⊥) → (i : ℕ) → e ≤ i → i < length xs → getD a i 0 ≡ raisedAt m xs (getD xs j 0) l i
   pub cancelled-high : (getD l j 0 ≡ 0 → ⊥) → (i : ℕ) → e ≤ i → i < length xs → getD b i 0 ≡ gainedAt m (product m (getD u j 0) (inverse m (getD l j 0))) l u i
 
--- the same with the interpolant, which is to be v at the point, at all points
-pub record WordSteps (m : ℕ) (xs : List ℕ) (j v : ℕ) (l u f : List ℕ) (low high : ℕ) (a b g : List ℕ) (r : Sizes) : Type 0 where
-  pub pair : Steps m xs j 0 l u low high a b r
+-- the same with the interpolant, which is to be v at the point
+pub record WordSteps (m : ℕ) (xs : List ℕ) (j e v : ℕ) (l u f : List ℕ) (low high : ℕ) (a b g : List ℕ) (r : Sizes) : Type 0 where
+  pub pair : Steps m xs j e l u low high a b r
   pub word-size : length g ≡ length xs
-  pub next : (ys : List ℕ) (s : State) → Shown m xs ys 0 l u low high s → Shows m xs ys 0 (s .word) f
-      → Shows m xs ys 0 (step (galois m) (point (getD xs j 0) (getD ys j 0)) v s .word) g
+  pub next : (ys : List ℕ) (d : ℕ) (s : State) → d ≤ j → d ≤ e → Shown m xs ys d l u low high s → Shows m xs ys d (s .word) f
+      → Shows m xs ys e (step (galois m) (point (getD xs j 0) (getD ys j 0)) v s .word) g
 
 -- the points that two lists of coordinates give
 abbrev pub pointsIn : List ℕ → List ℕ → List Point
 pointsIn xs ys = table (λ i. point (getD xs i 0) (getD ys i 0)) (length xs)
 
--- the functions of fewer than so many of the points have room
-pub record RunsFirst (m : ℕ) (xs ys : List ℕ) (count : ℕ) : Type 0 where
+-- the functions of fewer than so many of the points have room: with symbols there, and without
+pub record RunsWith (m : ℕ) (xs ys us : List ℕ) (count : ℕ) : Type 0 where
   pub enough : count ≤ length xs
-  pub small : (i : ℕ) → i < count → Small (after (galois m) (pointsIn xs ys) [] i)
+  pub small : (i : ℕ) → i < count → Small (after (galois m) (pointsIn xs ys) us i)
+
+abbrev pub RunsFirst : ℕ → List ℕ → List ℕ → ℕ → Type 0
+RunsFirst m xs ys count = RunsWith m xs ys [] count
 
 -- second coordinates, as many as first ones, in the field
 pub record Coordinates (m : ℕ) (xs ys : List ℕ) : Type 0 where

@@ -1,27 +1,26 @@
-// L, U and the interpolant F by their values at all points, and what one more place makes of them.
+// L, U and the interpolant F by their values, and what one more place makes of them.
 use crate::pair::longer;
 use crate::sweep::gain_both_raise;
 use crate::sweep::gain_raise;
-use basics::Place;
 use engine::pair::Sizes;
 use engine::pair::grown;
 use engine::pair::ordered;
 use engine::pair::swapped;
-use engine::places::index_of;
 use field::quotient;
 ghost use mathlib.Core.Path.{_≡_};
 ghost use mathlib.Core.Bool.{cond};
-ghost use Prim.Native.Nat.{_-_, _≤_};
+ghost use Prim.Native.Nat.{_<_};
 ghost use lib.ListN.{length};
 ghost use Rattle.field.specs.Tables.{Tables};
 ghost use Rattle.values.specs.Values.{WordSteps, Fits};
 
-// One more place, where F is to be v: L is in l and U in u.
+// One more place, with index j, where F is to be v: L is in l and U in u. What stands before the index `from` is needed no more.
 pub fn word_step(
     m: u8,
     powers: &[u8; 1021],
     logs: &[u16; 512],
-    place: Place,
+    j: usize,
+    from: usize,
     v: u8,
     xs: &[u8],
     l: &mut [u8],
@@ -30,16 +29,15 @@ pub fn word_step(
     n: Sizes,
 ) -> Sizes
     requires { ⌜ Tables m (now powers) (now logs) ⌝ }
-    requires { ⌜ (1 ≤ place .0) × (place .0 ≤ length (now xs)) × Fits (now xs) (now l) (now u) n × (length (now f) ≡ length (now xs)) ⌝ }
-    ensures { λ r. ⌜ WordSteps m (now (xs .entry)) (place .0 - 1) v (now (l .entry)) (now (u .entry)) (now (f .entry)) (n .low) (n .high) (now (l .exit)) (now (u .exit)) (now (f .exit)) r ⌝ }
+    requires { ⌜ (j < length (now xs)) × Fits (now xs) (now l) (now u) n × (length (now f) ≡ length (now xs)) ⌝ }
+    ensures { λ r. ⌜ WordSteps m (now (xs .entry)) j from v (now (l .entry)) (now (u .entry)) (now (f .entry)) (n .low) (n .high) (now (l .exit)) (now (u .exit)) (now (f .exit)) r ⌝ }
 {
-    let j = index_of(place);
     let alpha = xs[j];
     let missing = v ^ f[j];
     let at = l[j];
     if at == 0 {
         let e = quotient(m, powers, logs, missing, u[j]);
-        gain_raise(m, powers, logs, alpha, e, 0, xs, u, f);
+        gain_raise(m, powers, logs, alpha, e, from, xs, u, f);
         return Sizes {
             low: n.low,
             high: grown(n.high),
@@ -48,7 +46,7 @@ pub fn word_step(
     }
     let t = quotient(m, powers, logs, u[j], at);
     let e = quotient(m, powers, logs, missing, at);
-    gain_both_raise(m, powers, logs, alpha, t, e, 0, xs, l, u, f);
+    gain_both_raise(m, powers, logs, alpha, t, e, from, xs, l, u, f);
     ordered(grown(n.low), longer(n.low, n.high))
 }
 
@@ -57,7 +55,8 @@ pub fn word_turn(
     m: u8,
     powers: &[u8; 1021],
     logs: &[u16; 512],
-    place: Place,
+    j: usize,
+    from: usize,
     v: u8,
     xs: &[u8],
     l: &mut [u8],
@@ -66,13 +65,13 @@ pub fn word_turn(
     n: Sizes,
 ) -> Sizes
     requires { ⌜ Tables m (now powers) (now logs) ⌝ }
-    requires { ⌜ (1 ≤ place .0) × (place .0 ≤ length (now xs)) × Fits (now xs) (now l) (now u) n × (length (now f) ≡ length (now xs)) ⌝ }
-    ensures { λ r. ⌜ WordSteps m (now (xs .entry)) (place .0 - 1) v (cond (n .turned) (now (u .entry)) (now (l .entry))) (cond (n .turned) (now (l .entry)) (now (u .entry))) (now (f .entry)) (n .low) (n .high)
+    requires { ⌜ (j < length (now xs)) × Fits (now xs) (now l) (now u) n × (length (now f) ≡ length (now xs)) ⌝ }
+    ensures { λ r. ⌜ WordSteps m (now (xs .entry)) j from v (cond (n .turned) (now (u .entry)) (now (l .entry))) (cond (n .turned) (now (l .entry)) (now (u .entry))) (now (f .entry)) (n .low) (n .high)
         (now (l .exit)) (now (u .exit)) (now (f .exit)) r ⌝ }
 {
     let turned = n.turned;
     if turned {
-        return swapped(word_step(m, powers, logs, place, v, xs, u, l, f, n));
+        return swapped(word_step(m, powers, logs, j, from, v, xs, u, l, f, n));
     }
-    word_step(m, powers, logs, place, v, xs, l, u, f, n)
+    word_step(m, powers, logs, j, from, v, xs, l, u, f, n)
 }

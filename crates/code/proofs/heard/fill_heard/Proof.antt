@@ -1,11 +1,10 @@
 -- The loop's invariant: the heard places up to p stand at the front of the buffer.
 use Prim.Native.Nat.{ℕ, suc, _≤_, _-_}
-use mathlib.Core.Path.{_≡_, refl, sym, _∙_, ap, subst}
+use mathlib.Core.Path.{_≡_, sym, _∙_, subst}
 use mathlib.Core.Bool.{true, false}
 use native.Mathlib.Numerals.{add-one}
 use native.Mathlib.Omega.{arith}
 use lib.ListN.{length}
-use Rattle.basics.specs.Lists.{filter, table}
 use Rattle.basics.proofs.Loops.{Appended, appended-none, appended-one, appended-as, filter-table-more, filter-table-less, filter-table-few}
 use Rattle.code.specs.Heard.{heardAt, heardPlaces}
 use borrow.Author.Needs.{needs}

@@ -1,5 +1,5 @@
 -- Test after test, and then the callee fills the buffer.
-use mathlib.Core.Path.{_≡_, sym, _∙_}
+use mathlib.Core.Path.{sym, _∙_}
 use borrow.Author.Tests.{eq-eqb, ne-eqb, not-true, not-false}
 use Rattle.basics.proofs.Outcomes.{pass, refuse, count}
 use borrow.Author.Needs.{needs}

@@ -1,6 +1,5 @@
 -- The tests in their order.
 use borrow.Author.Tests.{eq-eqb, ne-eqb, le-leb, lt-leb}
-use borrow.Author.Needs.{needs}
 use Rattle.code.proofs.test.right_count.Statement.{statement}
 use Rattle.code.proofs.test.right_count.Tie as tie
 

@@ -1,6 +1,5 @@
 -- The tests in their order.
 use borrow.Author.Tests.{le-leb, lt-leb}
-use borrow.Author.Needs.{needs}
 use Rattle.code.proofs.test.right_dimension.Statement.{statement}
 use Rattle.code.proofs.test.right_dimension.Tie as tie
 

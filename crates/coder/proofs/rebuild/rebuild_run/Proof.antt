@@ -29,7 +29,7 @@ abbrev after-agrees-at : tie.After-slice-known6 → tie.After-agrees-at
 after-agrees-at c = past-if1 (c .before .before .before) .before
 
 prepare-word-requires : tie.Need-prepare-word-requires
-prepare-word-requires c κs = let s = c .before .before .before .before .before .before .before .before in (s .pre .0, (s .pre .1 .0, s .pre .1 .3))
+prepare-word-requires c κs = let s = c .before .before .before .before .before .before .before .before in (s .pre .0, (s .pre .1 .0, (s .pre .1 .1 .0, s .pre .1 .1 .3)))
 
 enum-told : tie.Need-enum-told
 enum-told c = search needs
@@ -38,14 +38,14 @@ enum-told c = search needs
 passed : (c : tie.After-enum-told) → let a = entry c .args in posedAnswer (codeOf (a .p) (a .xs .now) (a .ys .now)) (a .places .now) (a .symbols .now) ≡ Done
 passed c = sym (c .before .before .before .before .prepare-word .ensures .answers) ∙ c .enum-told .given .1
 
-holds : (c : tie.After-enum-told) → let a = entry c .args in c .before .before .before .before .prepare-word .last .1 .1 .1 .1 .1 .0 ≡ solvedWord (codeOf (a .p) (a .xs .now) (a .ys .now)) (a .places .now) (a .symbols .now)
+holds : (c : tie.After-enum-told) → let a = entry c .args in c .before .before .before .before .prepare-word .last .1 .1 .1 .1 .1 .1 .1 .0 ≡ solvedWord (codeOf (a .p) (a .xs .now) (a .ys .now)) (a .places .now) (a .symbols .now)
 holds c = c .before .before .before .before .prepare-word .ensures .holds (c .enum-told .given .1)
 
 agrees-at-requires : tie.Need-agrees-at-requires
 agrees-at-requires c κs =
     let s = entry (c .before) in
     let v = after-prepare-word c .prepare-word in
-    (all-in (solvable _ _ _ (passed (c .before)) (s .pre .0) (s .pre .1 .0) .placed) (v .last .1 .1 .1 .1 .1 .0) (v .kept .1 .1 .1 .1 .1 .0 ∙ s .pre .1 .3), s .pre .1 .0)
+    (all-in (solvable _ _ _ (passed (c .before)) (s .pre .1 .0) (s .pre .1 .1 .0) .placed) (v .last .1 .1 .1 .1 .1 .1 .1 .0) (v .kept .1 .1 .1 .1 .1 .1 .1 .0 ∙ s .pre .1 .1 .3), s .pre .1 .1 .0)
 
 same-length : tie.Need-same-length
 same-length c = search needs
@@ -54,13 +54,13 @@ returns : tie.Need-returns
 returns c =
     let s = entry (c .before .before .before) in
     let at = c .before .before .before in
-    posed-go _ _ _ (passed at) _ (refuse _ (agreed-by _ _ _ (s .pre .0) (enough _ _ _ (passed at) (s .pre .0) (s .pre .1 .0)) (holds at) (c .before .agrees-at .ensures) ∙ not-true _ (c .if1 .taken)))
+    posed-go _ _ _ (passed at) _ (refuse _ (agreed-by _ _ _ (s .pre .1 .0) (enough _ _ _ (passed at) (s .pre .1 .0) (s .pre .1 .1 .0)) (holds at) (c .before .agrees-at .ensures) ∙ not-true _ (c .if1 .taken)))
 
 copy-requires : tie.Need-copy-requires
-copy-requires c κs = let s = entry (c .before .before .before .before .before) in (omega (arith, after-prepare-word (c .before .before .before .before) .prepare-word .kept .1 .1 .1 .1 .1 .0, s .pre .1 .3), omega (arith, s .pre .1 .1))
+copy-requires c κs = let s = entry (c .before .before .before .before .before) in (omega (arith, after-prepare-word (c .before .before .before .before) .prepare-word .kept .1 .1 .1 .1 .1 .1 .1 .0, s .pre .1 .1 .3), omega (arith, s .pre .1 .1 .1))
 
 clear-room-requires : tie.Need-clear-room-requires
-clear-room-requires c κs = let s = entry (past-if1 c .before .before .before) in s .pre .1 .2
+clear-room-requires c κs = let s = entry (past-if1 c .before .before .before) in s .pre .1 .1 .2
 
 same-length-2 : tie.Need-same-length-2
 same-length-2 c = search needs
@@ -77,11 +77,11 @@ returns-2 c =
     let at = after-agrees-at c .before .before in
     let v = after-prepare-word (after-agrees-at c .before) .prepare-word in
     let w = c .before .before .before .before .before .before .copy in
-    let t = agreed-by _ _ _ (s .pre .0) (enough _ _ _ (passed at) (s .pre .0) (s .pre .1 .0)) (holds at) (after-agrees-at c .agrees-at .ensures) ∙ not-false _ (past-if1 (c .before .before .before) .if1 .left) in
+    let t = agreed-by _ _ _ (s .pre .1 .0) (enough _ _ _ (passed at) (s .pre .1 .0) (s .pre .1 .1 .0)) (holds at) (after-agrees-at c .agrees-at .ensures) ∙ not-false _ (past-if1 (c .before .before .before) .if1 .left) in
     posed-go _ _ _ (passed at) _
     (pass _ t
     (accept-pair
-    (whole-word (v .kept .1 .1 .1 .1 .1 .0 ∙ s .pre .1 .3) (w .kept .1 .1 .0 ∙ s .pre .1 .1) (w .ensures) ∙ rebuilt _ _ _ (s .pre .0) (enough _ _ _ (passed at) (s .pre .0) (s .pre .1 .0)) (holds at) t)
+    (whole-word (v .kept .1 .1 .1 .1 .1 .1 .1 .0 ∙ s .pre .1 .1 .3) (w .kept .1 .1 .0 ∙ s .pre .1 .1 .1) (w .ensures) ∙ rebuilt _ _ _ (s .pre .1 .0) (enough _ _ _ (passed at) (s .pre .1 .0) (s .pre .1 .1 .0)) (holds at) t)
     (c .before .before .clear-room .ensures)))
 
 same-length-5 : tie.Need-same-length-5

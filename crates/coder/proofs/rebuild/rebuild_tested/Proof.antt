@@ -29,13 +29,13 @@ returns-4 : tie.Need-returns-4
 returns-4 c = pass _ (le-leb _ _ (c .before .before .before .if1 .left)) (pass _ (eq-eqb _ _ (c .before .before .if2 .left)) (pass _ (eq-eqb _ _ (c .before .if3 .left)) (refuse _ (lt-leb room _ (c .if4 .taken)))))
 
 array-borrow-prefix-f : tie.Need-array-borrow-prefix-f
-array-borrow-prefix-f c = accepted-done _ (entry c .pre) .n-most
+array-borrow-prefix-f c = accepted-done _ (entry c .pre .1) .n-most
 
 slice-aggregate-rebuild-run : tie.Need-slice-aggregate-rebuild-run
-slice-aggregate-rebuild-run c = sym (length-take-le _ _ (accepted-done _ (entry (c .before) .pre) .n-most))
+slice-aggregate-rebuild-run c = sym (length-take-le _ _ (accepted-done _ (entry (c .before) .pre .1) .n-most))
 
 rebuild-run-requires : tie.Need-rebuild-run-requires
-rebuild-run-requires c κs = let s = entry (c .before .before .before) in (s .pre, (c .before .before .before .before .before .if2 .left, c .before .before .before .before .if3 .left, c .before .before .before .if4 .left, length-take-le _ _ (accepted-done _ (s .pre) .n-most)))
+rebuild-run-requires c κs = let s = entry (c .before .before .before) in (s .pre .0, (s .pre .1, (c .before .before .before .before .before .if2 .left, c .before .before .before .before .if3 .left, c .before .before .before .if4 .left, length-take-le _ _ (accepted-done _ (s .pre .1) .n-most))))
 
 same-length : tie.Need-same-length
 same-length c = search needs

@@ -26,25 +26,25 @@ are-places c =
     let s = entry (c .before) in
     let places = s .args .places .now in
     let n = length (s .args .xs .now) in
-    let h : n ≤ length places = omega (arith, s .pre .1 .0, accepted-done _ (s .pre .0) .n-most) in
+    let h : n ≤ length places = omega (arith, s .pre .1 .1 .0, accepted-done _ (s .pre .1 .0) .n-most) in
     front places (c .fill-places .last .0) n h (c .fill-places .kept .0) ∙ c .fill-places .ensures ∙ ap (table placeAt) (length-take-le n places h)
 
 slice-relend-prefix-fill-places : tie.Need-slice-relend-prefix-fill-places
-slice-relend-prefix-fill-places c = let s = c .before .before .before .before .before .before .before in omega (arith, s .pre .1 .0, accepted-done _ (s .pre .0) .n-most)
+slice-relend-prefix-fill-places c = let s = c .before .before .before .before .before .before .before in omega (arith, s .pre .1 .1 .0, accepted-done _ (s .pre .1 .0) .n-most)
 
 slice-aggregate-fill-places : tie.Need-slice-aggregate-fill-places
 slice-aggregate-fill-places c =
     let s = entry c in
-    sym (length-take-le (length (s .args .xs .now)) (s .args .places .now) (omega (arith, s .pre .1 .0, accepted-done _ (s .pre .0) .n-most)))
+    sym (length-take-le (length (s .args .xs .now)) (s .args .places .now) (omega (arith, s .pre .1 .1 .0, accepted-done _ (s .pre .1 .0) .n-most)))
 
 fill-places-requires : tie.Need-fill-places-requires
 fill-places-requires c κs =
     let s = entry c in
-    let m = accepted-done _ (s .pre .0) .n-most in
-    omega (arith, m, length-take-le (length (s .args .xs .now)) (s .args .places .now) (omega (arith, s .pre .1 .0, m)))
+    let m = accepted-done _ (s .pre .1 .0) .n-most in
+    omega (arith, m, length-take-le (length (s .args .xs .now)) (s .args .places .now) (omega (arith, s .pre .1 .1 .0, m)))
 
 slice-reshare-prefix-recover-run : tie.Need-slice-reshare-prefix-recover-run
-slice-reshare-prefix-recover-run c = let s = entry (c .before .before .before) in omega (arith, s .pre .1 .0, accepted-done _ (s .pre .0) .n-most)
+slice-reshare-prefix-recover-run c = let s = entry (c .before .before .before) in omega (arith, s .pre .1 .1 .0, accepted-done _ (s .pre .1 .0) .n-most)
 
 slice-aggregate-recover-run : tie.Need-slice-aggregate-recover-run
 slice-aggregate-recover-run c = rw (are-places (c .before .before .before)) (sym (length-table _ _))
@@ -52,7 +52,7 @@ slice-aggregate-recover-run c = rw (are-places (c .before .before .before)) (sym
 recover-run-requires : tie.Need-recover-run-requires
 recover-run-requires c κs =
     let s = entry (c .before .before .before .before .before .before .before) in
-    (s .pre .0, (are-places (c .before .before .before .before .before .before), s .pre .1 .1, s .pre .1 .2, s .pre .1 .3, s .pre .1 .4))
+    (s .pre .0, (s .pre .1 .0, (are-places (c .before .before .before .before .before .before), s .pre .1 .1 .1, s .pre .1 .1 .2, s .pre .1 .1 .3, s .pre .1 .1 .4)))
 
 same-length : tie.Need-same-length
 same-length c = search needs

@@ -1,4 +1,5 @@
 -- Test after test of the lengths, and then of what the lists hold.
+use native.Mathlib.Omega.{arith}
 use borrow.Author.Tests.{eq-eqb, ne-eqb, le-leb, lt-leb}
 use Rattle.basics.proofs.Outcomes.{pass, refuse}
 use Rattle.solving.specs.Tests.{room}
@@ -7,6 +8,9 @@ use Rattle.coder.proofs.recover.recover_tested.Statement.{statement}
 use Rattle.coder.proofs.recover.recover_tested.Tie as tie
 
 -- the moments of the run, each seen from a later one
+abbrev entry : tie.Else3 → tie.Start
+entry c = c .before .before .before .before .before .before .before .before .before
+
 abbrev past-if3 : tie.After-slice-known4 → tie.Else3
 past-if3 c = c .before .before .before .before .before .before .before .before .before .before .before
 
@@ -26,7 +30,10 @@ slice-aggregate-recover-at-2 : tie.Need-slice-aggregate-recover-at-2
 slice-aggregate-recover-at-2 c = search needs
 
 recover-at-requires : tie.Need-recover-at-requires
-recover-at-requires c κs = search needs
+recover-at-requires c κs =
+    let t = c .before .before .before .before in
+    let s = entry t in
+    (s .pre .0, (s .pre .1, (omega arith, t .before .before .before .if1 .left, t .before .if2 .left, t .if3 .left, omega arith)))
 
 same-length : tie.Need-same-length
 same-length c = search needs

@@ -15,11 +15,11 @@ use Rattle.coder.proofs.relation.relation_placed.Tie as tie
 abbrev entry : tie.After-enum-told → tie.Start
 entry c = c .before .before .before .before .before .before .before .before
 
-abbrev after-powers : tie.After-relation-run-arg4 → tie.After-powers
-after-powers c = c .before .before .before .before .before .before .before
+abbrev after-enum-told : tie.After-relation-run-arg2 → tie.After-enum-told
+after-enum-told c = c .before .before .before .before
 
 test-places-requires : tie.Need-test-places-requires
-test-places-requires c κs = accepted-done _ (c .before .before .before .before .before .pre .0) .n-most
+test-places-requires c κs = accepted-done _ (c .before .before .before .before .before .pre .1 .0) .n-most
 
 enum-told : tie.Need-enum-told
 enum-told c = search needs
@@ -27,12 +27,6 @@ enum-told c = search needs
 -- the tests were passed
 passed : (c : tie.After-enum-told) → let a = entry c .args in placesAnswer (length (a .xs .now)) (a .places .now) ≡ Done
 passed c = sym (c .before .before .test-places .ensures) ∙ c .enum-told .given .1
-
-powers-requires : tie.Need-powers-requires
-powers-requires c κs = accepted-done _ (entry c .pre .0) .field
-
-logarithms-requires : tie.Need-logarithms-requires
-logarithms-requires c κs = accepted-done _ (entry (c .before .before) .pre .0) .field
 
 slice-aggregate-relation-run : tie.Need-slice-aggregate-relation-run
 slice-aggregate-relation-run c = search needs
@@ -42,10 +36,8 @@ slice-aggregate-relation-run-2 c = search needs
 
 relation-run-requires : tie.Need-relation-run-requires
 relation-run-requires c κs =
-    let pre = entry (after-powers c .before) .pre in (
-      record { field = accepted-done _ (pre .0) .field; is-powers = after-powers c .powers .ensures; is-logs = c .before .before .before .before .before .logarithms .ensures },
-      (are-placed _ _ (passed (after-powers c .before)) (pre .0), (omega arith, omega arith), pre .1 .0, pre .1 .1, pre .1 .2),
-    )
+    let pre = entry (after-enum-told c) .pre in
+    (pre .0, (are-placed _ _ (passed (after-enum-told c)) (pre .1 .0), (omega arith, omega arith), pre .1 .1 .0, pre .1 .1 .1, pre .1 .1 .2))
 
 same-length : tie.Need-same-length
 same-length c = search needs
@@ -54,7 +46,7 @@ same-length-2 : tie.Need-same-length-2
 same-length-2 c = search needs
 
 returns : tie.Need-returns
-returns c = places-go _ _ (passed (after-powers (c .before .before .before .before .before .before .before) .before)) _ (c .before .before .before .before .before .before .relation-run .ensures)
+returns c = places-go _ _ (passed (after-enum-told (c .before .before .before .before .before .before .before))) _ (c .before .before .before .before .before .before .relation-run .ensures)
 
 returns-2 : tie.Need-returns-2
 returns-2 c = places-stop _ _ _ (c .before .test-places .ensures) (λ d. ⊎-elim (λ e. omega (arith, e)) (λ e. omega (arith, e)) (rw d at (c .match .keys2)))
@@ -65,8 +57,6 @@ relation-placed-spec =
     (tie.spec
     test-places-requires
     enum-told
-    powers-requires
-    logarithms-requires
     slice-aggregate-relation-run
     slice-aggregate-relation-run-2
     relation-run-requires

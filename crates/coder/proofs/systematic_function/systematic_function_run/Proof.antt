@@ -22,7 +22,7 @@ abbrev after-write-function : tie.After-slice-known6 → tie.After-write-functio
 after-write-function c = c .before .before .before .before .before .before
 
 prepare-requires : tie.Need-prepare-requires
-prepare-requires c κs = let s = c .before .before .before .before .before .before .before .before in (s .pre .0, (s .pre .1 .1 ∙ sym (s .pre .1 .0), s .pre .1 .4))
+prepare-requires c κs = let s = c .before .before .before .before .before .before .before .before in (s .pre .0, (s .pre .1 .0, (s .pre .1 .1 .1 ∙ sym (s .pre .1 .1 .0), s .pre .1 .1 .4)))
 
 enum-told : tie.Need-enum-told
 enum-told c = search needs
@@ -31,14 +31,14 @@ enum-told c = search needs
 passed : (c : tie.After-enum-told) → let a = entry c .args in posedAnswer (codeOf (a .p) (a .xs .now) (a .ys .now)) (a .places .now) (a .symbols .now) ≡ Done
 passed c = sym (c .before .before .before .before .prepare .ensures .answers) ∙ c .enum-told .given .1
 
-holds : (c : tie.After-enum-told) → let a = entry c .args in Holds (c .before .before .before .before .prepare .last .1 .1 .1 .1 .1 .0) (a .p .k) (solution (codeOf (a .p) (a .xs .now) (a .ys .now)) (a .places .now) (a .symbols .now))
+holds : (c : tie.After-enum-told) → let a = entry c .args in Holds (c .before .before .before .before .prepare .last .1 .1 .1 .1 .1 .1 .1 .0) (a .p .k) (solution (codeOf (a .p) (a .xs .now) (a .ys .now)) (a .places .now) (a .symbols .now))
 holds c = c .before .before .before .before .prepare .ensures .holds (c .enum-told .given .1)
 
 write-function-requires : tie.Need-write-function-requires
-write-function-requires c κs = let s = entry (c .before .before) in (holds (c .before .before) .within, omega (arith, s .pre .1 .2))
+write-function-requires c κs = let s = entry (c .before .before) in (holds (c .before .before) .within, omega (arith, s .pre .1 .1 .2))
 
 clear-room-requires : tie.Need-clear-room-requires
-clear-room-requires c κs = let s = entry (c .before .before .before .before .before .before) in s .pre .1 .3
+clear-room-requires c κs = let s = entry (c .before .before .before .before .before .before) in s .pre .1 .1 .3
 
 same-length : tie.Need-same-length
 same-length c = search needs
@@ -53,7 +53,7 @@ returns : tie.Need-returns
 returns c =
     let s = entry (after-write-function c .before .before .before) in
     let at = after-write-function c .before .before .before in
-    posed-go _ _ _ (passed at) _ (accept-pair (after-write-function c .write-function .ensures ∙ the-function _ _ _ (s .pre .0) (enough _ _ _ (passed at) (s .pre .0) (s .pre .1 .1 ∙ sym (s .pre .1 .0))) (s .pre .1 .0) (s .pre .1 .2) (holds at)) (c .before .before .clear-room .ensures))
+    posed-go _ _ _ (passed at) _ (accept-pair (after-write-function c .write-function .ensures ∙ the-function _ _ _ (s .pre .1 .0) (enough _ _ _ (passed at) (s .pre .1 .0) (s .pre .1 .1 .1 ∙ sym (s .pre .1 .1 .0))) (s .pre .1 .1 .0) (s .pre .1 .1 .2) (holds at)) (c .before .before .clear-room .ensures))
 
 same-length-4 : tie.Need-same-length-4
 same-length-4 c = search needs

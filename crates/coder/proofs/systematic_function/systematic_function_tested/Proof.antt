@@ -1,4 +1,5 @@
 -- Test after test of the lengths, and then of what the lists hold.
+use native.Mathlib.Omega.{arith}
 use borrow.Author.Tests.{eq-eqb, ne-eqb, le-leb, lt-leb}
 use Rattle.basics.proofs.Outcomes.{pass, refuse, meets-as}
 use Rattle.solving.specs.Tests.{room}
@@ -8,6 +9,9 @@ use Rattle.coder.proofs.systematic_function.systematic_function_tested.
 use Rattle.coder.proofs.systematic_function.systematic_function_tested.Tie as tie
 
 -- the moments of the run, each seen from a later one
+abbrev entry : tie.Else4 → tie.Start
+entry c = c .before .before .before .before .before .before .before .before .before .before .before .before .before
+
 abbrev past-if4 : tie.After-slice-known4 → tie.Else4
 past-if4 c = c .before .before .before .before .before .before .before .before .before
 
@@ -27,7 +31,10 @@ slice-aggregate-systematic-function-run : tie.Need-slice-aggregate-systematic-fu
 slice-aggregate-systematic-function-run c = search needs
 
 systematic-function-run-requires : tie.Need-systematic-function-run-requires
-systematic-function-run-requires c κs = search needs
+systematic-function-run-requires c κs =
+    let t = c .before .before .before in
+    let s = entry t in
+    (s .pre .0, (s .pre .1, (t .before .before .before .before .before .if1 .left, t .before .before .before .if2 .left, t .before .if3 .left, t .if4 .left, omega arith)))
 
 same-length : tie.Need-same-length
 same-length c = search needs

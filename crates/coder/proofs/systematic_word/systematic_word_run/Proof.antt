@@ -22,7 +22,7 @@ abbrev after-enum-told : tie.After-slice-known6 → tie.After-enum-told
 after-enum-told c = c .before .before .before .before .before .before .before .before .before
 
 prepare-word-requires : tie.Need-prepare-word-requires
-prepare-word-requires c κs = let s = c .before .before .before .before .before .before .before .before in (s .pre .0, (s .pre .1 .1 ∙ sym (s .pre .1 .0), s .pre .1 .4))
+prepare-word-requires c κs = let s = c .before .before .before .before .before .before .before .before in (s .pre .0, (s .pre .1 .0, (s .pre .1 .1 .1 ∙ sym (s .pre .1 .1 .0), s .pre .1 .1 .4)))
 
 enum-told : tie.Need-enum-told
 enum-told c = search needs
@@ -31,14 +31,14 @@ enum-told c = search needs
 passed : (c : tie.After-enum-told) → let a = entry c .args in posedAnswer (codeOf (a .p) (a .xs .now) (a .ys .now)) (a .places .now) (a .symbols .now) ≡ Done
 passed c = sym (c .before .before .before .before .prepare-word .ensures .answers) ∙ c .enum-told .given .1
 
-holds : (c : tie.After-enum-told) → let a = entry c .args in c .before .before .before .before .prepare-word .last .1 .1 .1 .1 .1 .0 ≡ solvedWord (codeOf (a .p) (a .xs .now) (a .ys .now)) (a .places .now) (a .symbols .now)
+holds : (c : tie.After-enum-told) → let a = entry c .args in c .before .before .before .before .prepare-word .last .1 .1 .1 .1 .1 .1 .1 .0 ≡ solvedWord (codeOf (a .p) (a .xs .now) (a .ys .now)) (a .places .now) (a .symbols .now)
 holds c = c .before .before .before .before .prepare-word .ensures .holds (c .enum-told .given .1)
 
 copy-requires : tie.Need-copy-requires
-copy-requires c κs = let s = entry (c .before .before) in (omega (arith, c .before .before .before .before .before .before .prepare-word .kept .1 .1 .1 .1 .1 .0, s .pre .1 .3, s .pre .1 .4, accepted-done _ (s .pre .0) .n-most), omega (arith, s .pre .1 .2))
+copy-requires c κs = let s = entry (c .before .before) in (omega (arith, c .before .before .before .before .before .before .prepare-word .kept .1 .1 .1 .1 .1 .1 .1 .0, s .pre .1 .1 .3, s .pre .1 .1 .4, accepted-done _ (s .pre .1 .0) .n-most), omega (arith, s .pre .1 .1 .2))
 
 clear-room-requires : tie.Need-clear-room-requires
-clear-room-requires c κs = let s = entry (c .before .before .before .before .before .before) in s .pre .1 .3
+clear-room-requires c κs = let s = entry (c .before .before .before .before .before .before) in s .pre .1 .1 .3
 
 same-length : tie.Need-same-length
 same-length c = search needs
@@ -57,7 +57,7 @@ returns c =
     let w = c .before .before .before .before .before .before .copy in
     posed-go _ _ _ (passed at) _
     (accept-pair
-    (whole-word (v .kept .1 .1 .1 .1 .1 .0 ∙ s .pre .1 .4) (w .kept .1 .1 .0 ∙ s .pre .1 .2) (w .ensures) ∙ the-word _ _ _ (s .pre .0) (enough _ _ _ (passed at) (s .pre .0) (s .pre .1 .1 ∙ sym (s .pre .1 .0))) (s .pre .1 .0) (holds at))
+    (whole-word (v .kept .1 .1 .1 .1 .1 .1 .1 .0 ∙ s .pre .1 .1 .4) (w .kept .1 .1 .0 ∙ s .pre .1 .1 .2) (w .ensures) ∙ the-word _ _ _ (s .pre .1 .0) (enough _ _ _ (passed at) (s .pre .1 .0) (s .pre .1 .1 .1 ∙ sym (s .pre .1 .1 .0))) (s .pre .1 .1 .0) (holds at))
     (c .before .before .clear-room .ensures))
 
 same-length-4 : tie.Need-same-length-4

@@ -5,7 +5,6 @@ use native.Mathlib.Omega.{arith}
 use borrow.Author.Tests.{not-true, not-false}
 use Rattle.basics.specs.declared.Answer.the-variants.{Done}
 use Rattle.codewords.specs.Code.{codeOf}
-use Rattle.codewords.proofs.Accepted.{accepted-done}
 use Rattle.solving.specs.Tests.{listsAnswer}
 use Rattle.solving.proofs.Chains.{posed, prepared-not, prepared-done, prepared-stop}
 use borrow.Author.Needs.{needs}
@@ -16,11 +15,11 @@ use Rattle.solving.proofs.prepare.prepare.Tie as tie
 abbrev entry : tie.After-enum-told → tie.Start
 entry c = c .before .before .before .before .before .before .before .before
 
-abbrev after-enum-told : tie.After-solve-arg3 → tie.After-enum-told
-after-enum-told c = c .before .before .before .before .before
+abbrev after-enum-told : tie.After-solve-arg → tie.After-enum-told
+after-enum-told c = c .before
 
 test-lists-requires : tie.Need-test-lists-requires
-test-lists-requires c κs = c .before .before .before .before .before .pre .0
+test-lists-requires c κs = c .before .before .before .before .before .pre .1 .0
 
 enum-told : tie.Need-enum-told
 enum-told c = search needs
@@ -29,18 +28,10 @@ enum-told c = search needs
 passed : (c : tie.After-enum-told) → let a = entry c .args in listsAnswer (codeOf (a .p) (a .xs .now) (a .ys .now)) (a .places .now) (a .symbols .now) ≡ Done
 passed c = sym (c .before .before .test-lists .ensures) ∙ c .enum-told .given .1
 
-powers-requires : tie.Need-powers-requires
-powers-requires c κs = accepted-done _ (entry c .pre .0) .field
-
-logarithms-requires : tie.Need-logarithms-requires
-logarithms-requires c κs = accepted-done _ (entry (c .before .before) .pre .0) .field
-
 solve-requires : tie.Need-solve-requires
 solve-requires c κs =
-    let pre = entry (after-enum-told c) .pre in (
-      record { field = accepted-done _ (pre .0) .field; is-powers = c .before .before .before .before .powers .ensures; is-logs = c .before .before .logarithms .ensures },
-      (posed _ _ _ (passed (after-enum-told c)) (pre .0) (pre .1 .0), pre .1 .1),
-    )
+    let pre = entry (after-enum-told c) .pre in
+    (pre .0, (posed _ _ _ (passed (after-enum-told c)) (pre .1 .0) (pre .1 .1 .0), pre .1 .1 .1))
 
 same-length : tie.Need-same-length
 same-length c = search needs
@@ -63,8 +54,6 @@ prepare-spec =
     (tie.spec
     test-lists-requires
     enum-told
-    powers-requires
-    logarithms-requires
     solve-requires
     same-length
     returns

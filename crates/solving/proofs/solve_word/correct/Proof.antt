@@ -1,19 +1,10 @@
 -- The sum with the multiple that the quotient is.
 use mathlib.Core.Path.{_∙_, ap}
-use lib.Bits.{bitXor}
-use lib.ListN.{getD}
-use Rattle.field.specs.Galois.{galois, product, inverse}
+use Rattle.field.specs.Galois.{galois}
 use Rattle.elliptic.specs.Pair.{addScaled}
 use borrow.Author.Needs.{needs}
 use Rattle.solving.proofs.solve_word.correct.Statement.{statement}
 use Rattle.solving.proofs.solve_word.correct.Tie as tie
-
--- the moments of the run, each seen from a later one
-abbrev after-index-of : tie.After-slice-known3 → tie.After-index-of
-after-index-of c = c .before .before .before .before .before .before .before
-
-index-of-requires : tie.Need-index-of-requires
-index-of-requires c κs = search needs
 
 slice-read-quotient : tie.Need-slice-read-quotient
 slice-read-quotient c = search needs
@@ -32,16 +23,13 @@ same-length c = search needs
 
 returns : tie.Need-returns
 returns c =
-    let a = after-index-of c .before .before .before .args in
-    c .before .before .add-scaled .ensures
-    ∙ ap (λ t. addScaled (galois (a .m)) t (a .l .now) (a .f .now))
-    (c .before .before .before .before .quotient .ensures ∙ ap (λ j. product (a .m) (bitXor (a .v) (getD (a .f .now) j 0)) (inverse (a .m) (getD (a .l .now) j 0))) (after-index-of c .index-of .ensures))
+    let a = c .before .before .before .before .before .before .before .before .before .args in
+    c .before .before .add-scaled .ensures ∙ ap (λ t. addScaled (galois (a .m)) t (a .l .now) (a .f .now)) (c .before .before .before .before .quotient .ensures)
 
 pub correct-spec : {M : Type 1} → statement M
 correct-spec =
     tie.close
     (tie.spec
-    index-of-requires
     slice-read-quotient
     shared-slice-read-quotient
     quotient-requires

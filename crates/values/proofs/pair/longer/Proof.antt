@@ -1,5 +1,4 @@
 -- By cases.
-use mathlib.Core.Path.{sym}
 use native.Mathlib.Omega.{arith}
 use borrow.Author.Tests.{lt-ltb, le-ltb}
 use Rattle.values.proofs.pair.longer.Statement.{statement}

@@ -1,35 +1,29 @@
 -- The loop's invariant: the arrays show the pair of the first i points, at the points from i on.
 use mathlib.Core.List.{[]}
-use mathlib.Core.Path.{_≡_, sym, _∙_}
+use mathlib.Core.Path.{_≡_, refl, sym, _∙_}
 use Prim.Native.Nat.{_≤_, _-_}
 use native.Mathlib.Omega.{arith}
 use lib.ListN.{length}
 use Rattle.field.specs.Galois.{galois}
 use Rattle.elliptic.specs.Pair.{after}
 use Rattle.values.specs.Values.{ShownIn, pointsIn}
-use Rattle.values.proofs.Runs.{begins, fits, first-more}
+use Rattle.values.proofs.Runs.{begins, begun-size, fits, first-more}
 use borrow.Author.Needs.{needs}
 use Rattle.values.proofs.run.run_pair.Statement.{statement}
 use Rattle.values.proofs.run.run_pair.Tie as tie
 
 abbrev Inv-loop : tie.InvT-loop
-Inv-loop m powers logs xs ys count l₀ u₀ n₀ i₀ l u n i = (length l ≡ length xs) × (length u ≡ length xs) × (i ≤ count) × ShownIn m xs ys i l u n (after (galois m) (pointsIn xs ys) [] i)
+Inv-loop m powers logs xs count l₀ u₀ n₀ i₀ l u n i = (length l ≡ length xs) × (length u ≡ length xs) × (i ≤ count) × ShownIn m xs u₀ i l u n (after (galois m) (pointsIn xs u₀) [] i)
 
 abbrev μ-loop : tie.MeasureT-loop
-μ-loop m powers logs xs ys count l₀ u₀ n₀ i₀ l u n i = count - i
+μ-loop m powers logs xs count l₀ u₀ n₀ i₀ l u n i = count - i
 
 -- the moments of the run, each seen from a later one
 abbrev start : tie.After-first-sizes Inv-loop μ-loop → tie.Start Inv-loop μ-loop
-start c = c .before .before .before .before .before .before .before .before .before .before .before .before
+start c = c .before .before .before .before
 
-abbrev in-loop : tie.After-slice-known6 Inv-loop μ-loop → tie.In-loop Inv-loop μ-loop
+abbrev in-loop : tie.After-slice-known4 Inv-loop μ-loop → tie.In-loop Inv-loop μ-loop
 in-loop c = c .before .before .before .before .before .before .before
-
-begin-requires : tie.Need-begin-requires Inv-loop μ-loop
-begin-requires c κs =
-    let entry = c .before .before .before .before .before .before in
-    let pre = entry .pre .1 .0 in
-    (pre .1 ∙ sym (pre .0 .as-many), pre .2 ∙ sym (pre .0 .as-many))
 
 first-sizes-requires : tie.Need-first-sizes-requires Inv-loop μ-loop
 first-sizes-requires c κs = search needs
@@ -38,11 +32,10 @@ loop-holds : tie.Need-loop-holds Inv-loop μ-loop
 unfolding after
 loop-holds c =
     let entry = start c in
-    let begun = c .before .before .before .before .before .begin in
     let pre = entry .pre .1 .0 in
     let n = c .first-sizes .ensures in
-    let p = begins (entry .pre .0 .field) (pre .0) (n .0) (n .1) (n .2) (begun .ensures .0) (begun .ensures .1) in
-    (begun .kept .1 .0 ∙ pre .1, begun .kept .1 .1 .0 ∙ pre .2, omega arith, p)
+    let p = begins (entry .pre .0 .field) (pre .0) (n .0) (n .1) (n .2) (pre .1) refl in
+    (begun-size (pre .0) (pre .1), pre .0 .as-many, omega arith, p)
 
 add-pair-turn : tie.Need-add-pair-turn Inv-loop μ-loop
 add-pair-turn c = search needs
@@ -67,14 +60,14 @@ loop-again c =
     let h = in-loop c .loop-test .taken in
     let r = c .before .before .before .before .pair-turn .ensures in
     let a = entry .args in
-    let more = r .next (a .ys .now) (at .i) _ 0 (omega arith) (omega arith) (entry .pre .1 .1 .small (at .i) h) (at .inv .3) in
-    (r .first-size, r .second-size, omega arith, rw (first-more (a .m) (a .xs .now) (a .ys .now) (at .i) (omega (arith, entry .pre .1 .1 .enough))) at more)
+    let more = r .next (a .u .now) (at .i) _ 0 (omega arith) (omega arith) (entry .pre .1 .1 .small (at .i) h) (at .inv .3) in
+    (r .first-size, r .second-size, omega arith, rw (first-more (a .m) (a .xs .now) (a .u .now) (at .i) (omega (arith, entry .pre .1 .1 .enough))) at more)
 
 same-length : tie.Need-same-length Inv-loop μ-loop
-same-length c = search needs
+same-length c = let pre = start (c .before .before) .pre .1 .0 in c .before .loop .inv .0 ∙ sym (begun-size (pre .0) (pre .1))
 
 same-length-2 : tie.Need-same-length-2 Inv-loop μ-loop
-same-length-2 c = search needs
+same-length-2 c = c .before .loop .inv .1 ∙ sym (start (c .before .before) .pre .1 .0 .0 .as-many)
 
 returns : tie.Need-returns Inv-loop μ-loop
 returns c =
@@ -89,7 +82,6 @@ run-pair-spec =
     (tie.spec
     Inv-loop
     μ-loop
-    begin-requires
     first-sizes-requires
     loop-holds
     add-pair-turn

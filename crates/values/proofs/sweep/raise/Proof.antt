@@ -1,10 +1,9 @@
 -- The loop's invariant: the values behind i are raised, and the rest is as it was.
-use mathlib.Core.Path.{_≡_}
 use Prim.Native.Nat.{_-_}
 use native.Mathlib.Omega.{arith}
 use lib.ListN.{length}
 use borrow.Author.Needs.{needs}
-use Rattle.values.specs.Values.{Sweeping, raisedAt, gainedAt}
+use Rattle.values.specs.Values.{Sweeping, raisedAt}
 use Rattle.values.proofs.Sweeps.{sweeping-none, sweeping-turn, sweeping-all, raised-by}
 use Rattle.values.proofs.sweep.raise.Statement.{statement}
 use Rattle.values.proofs.sweep.raise.Tie as tie

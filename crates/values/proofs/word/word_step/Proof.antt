@@ -1,8 +1,6 @@
 -- The two cases of a step: L is zero at the place, or it is not.
-use Prim.Native.Nat.{_<_}
 use mathlib.Core.Path.{refl}
 use native.Mathlib.Omega.{arith}
-use lib.ListN.{length}
 use Rattle.values.proofs.Steps.{keeps, steps, word-keeps, word-steps}
 use borrow.Author.Needs.{needs}
 use Rattle.values.proofs.word.word_step.Statement.{statement}
@@ -10,7 +8,7 @@ use Rattle.values.proofs.word.word_step.Tie as tie
 
 -- the moments of the run, each seen from a later one
 abbrev start : tie.After-slice-known5 → tie.Start
-start c = c .before .before .before .before .before .before .before .before
+start c = c .before .before .before .before .before .before .before
 
 abbrev after-gain-raise : tie.After-grown → tie.After-gain-raise
 after-gain-raise c = c .before .before .before .before .before
@@ -26,9 +24,6 @@ past-if1 c = after-quotient2 (c .before .before .before) .before .before
 
 abbrev after-gain-both-raise : tie.After-ordered → tie.After-gain-both-raise
 after-gain-both-raise c = c .before .before .before .before .before .before .before .before .before
-
-index-of-requires : tie.Need-index-of-requires
-index-of-requires c κs = search needs
 
 shared-slice-read-alpha : tie.Need-shared-slice-read-alpha
 shared-slice-read-alpha c = search needs
@@ -60,14 +55,13 @@ same-length-2 c = search needs
 returns : tie.Need-returns
 returns c =
     let entry = start (within-if1 c .before) in
-    let index = within-if1 c .before .before .before .before .index-of in
     let pre = entry .pre .1 in
-    let fits = pre .2 in
-    let inside : index .result < length (entry .args .xs .now) = omega (arith, index .ensures, pre .0, pre .1) in
+    let inside = pre .0 in
+    let fits = pre .1 in
     let zero = within-if1 c .if1 .taken in
     let swept = after-gain-raise c .gain-raise .ensures in
     let pair = keeps (entry .pre .0 .field) inside _ _ (fits .first) (fits .second) zero (swept .0) refl refl (c .grown .ensures) in
-    rw (← index .ensures) (word-keeps (entry .pre .0 .field) (entry .args .v) inside (pre .3) pair _ zero (after-gain-raise c .before .before .before .quotient .ensures) (swept .1))
+    word-keeps (entry .pre .0 .field) (entry .args .v) inside (pre .2) pair _ zero (after-gain-raise c .before .before .before .quotient .ensures) (swept .1)
 
 slice-read-quotient-2 : tie.Need-slice-read-quotient-2
 slice-read-quotient-2 c = search needs
@@ -84,7 +78,7 @@ gain-both-raise-requires c κs = search needs
 grown-requires-2 : tie.Need-grown-requires-2
 grown-requires-2 c κs =
     let entry = start (after-quotient2 c .before .before .before) in
-    omega (arith, entry .pre .1 .2 .low-room)
+    omega (arith, entry .pre .1 .1 .low-room)
 
 longer-requires : tie.Need-longer-requires
 longer-requires c κs = search needs
@@ -104,21 +98,19 @@ same-length-5 c = search needs
 returns-2 : tie.Need-returns-2
 returns-2 c =
     let entry = start (past-if1 c .before) in
-    let index = past-if1 c .before .before .before .before .index-of in
     let pre = entry .pre .1 in
-    let fits = pre .2 in
-    let inside : index .result < length (entry .args .xs .now) = omega (arith, index .ensures, pre .0, pre .1) in
+    let inside = pre .0 in
+    let fits = pre .1 in
     let other = past-if1 c .if1 .left in
     let swept = after-gain-both-raise c .gain-both-raise .ensures in
     let order = rw (c .before .before .grown2 .ensures, c .before .longer .ensures) at (c .ordered .ensures) in
     let pair = steps (entry .pre .0 .field) inside _ _ (fits .first) (fits .second) other (after-quotient2 (c .before .before .before) .quotient2 .ensures) (swept .0) (swept .1) order in
-    rw (← index .ensures) (word-steps (entry .pre .0 .field) (entry .args .v) inside (pre .3) pair _ other (after-gain-both-raise c .before .before .before .before .quotient3 .ensures) (swept .2))
+    word-steps (entry .pre .0 .field) (entry .args .v) inside (pre .2) pair _ other (after-gain-both-raise c .before .before .before .before .quotient3 .ensures) (swept .2)
 
 pub word-step-spec : {M : Type 1} → statement M
 word-step-spec =
     tie.close
     (tie.spec
-    index-of-requires
     shared-slice-read-alpha
     slice-read-missing
     slice-read-at
