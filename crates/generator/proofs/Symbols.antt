@@ -17,8 +17,8 @@ use Rattle.field.specs.Galois.{product, inverse}
 use Rattle.field.specs.Tables.{productByLog}
 use Rattle.values.specs.Values.{Sweeping}
 use Rattle.arrangement.specs.Arranged.{rank}
-use Rattle.arrangement.proofs.Arranged.{rank-le, rank-next}
-use Rattle.generator.specs.Rows.{Factor, total, partAt, leftAt, entryAt, symbolAt, indexAt, Marked, Indexed, Behind, Filled, Completed}
+use Rattle.arrangement.proofs.Arranged.{rank-next}
+use Rattle.generator.specs.Rows.{Factor, partAt, symbolAt, indexAt, Marked, Indexed, Behind, Filled, Completed}
 
 -- the slot of the free point with index t
 abbrev slotOf : ℕ → List ℕ → ℕ → ℕ

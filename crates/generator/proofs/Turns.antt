@@ -5,14 +5,12 @@ use mathlib.Core.List.{List}
 use native.Mathlib.Decide.{ℕ-discrete}
 use native.Mathlib.Numerals.{add-one}
 use native.Mathlib.Omega.{arith}
-use borrow.Author.Tests.{eq-eqb, ne-eqb}
 use lib.Bits.{bitXor}
 use lib.ListN.{length, getD, set, length-set}
 use lib.Seq.{getD-set-same, getD-set-other}
 use Rattle.field.specs.Sum.{_⊕_}
 use Rattle.field.specs.Galois.{product, inverse}
 use Rattle.values.specs.Values.{Sweeping}
-use Rattle.arrangement.specs.Arranged.{rank}
 use Rattle.generator.specs.Rows.{total, multipleAt, Over, RowLists, RowsRaised, Slots}
 
 -- a sum gains a term
@@ -81,7 +79,8 @@ rows-turned g = record { points = g .points; firsts = g .seconds; seconds = g .f
 pub rows-sized : {xs a b a′ b′ : List ℕ} {i count : ℕ} → i ≤ count → length a′ ≡ length a → length b′ ≡ length b → RowLists xs a b count → RowLists xs a′ b′ i
 rows-sized l e f g = record { points = omega (arith, g .points); firsts = omega (arith, g .firsts); seconds = omega (arith, g .seconds) }
 
--- the slots of another row
-pub slots-of : {count : ℕ} {xs a b sums row row′ : List ℕ} → length row′ ≡ length xs → Slots count xs a b sums row → Slots count xs a b sums row′
-slots-of e g =
-    record { points = g .points; first-size = g .first-size; second-size = g .second-size; sum-size = g .sum-size; row-size = e; inside = g .inside; most = g .most }
+-- the slots of other sums and another row
+pub slots-of : {count : ℕ} {xs a b sums row sums′ row′ : List ℕ} → length sums′ ≡ length xs → length row′ ≡ length xs → Slots count xs a b sums row
+    → Slots count xs a b sums′ row′
+slots-of d e g =
+    record { points = g .points; first-size = g .first-size; second-size = g .second-size; sum-size = d; row-size = e; inside = g .inside; most = g .most }

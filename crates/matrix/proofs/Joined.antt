@@ -1,36 +1,72 @@
--- Rows of n written one after the other into parts of one buffer: how many fit, one more row, and all of them.
-use Prim.Native.Nat.{ℕ, _+_, _*_, _-_, _<_, _≤_}
-use mathlib.Core.Path.{_≡_, refl, sym, _∙_, ap}
+-- Rows of n, each in its own part of one buffer: a row that is lent and comes back changes its own part alone, and all parts joined are the buffer.
+use Prim.Native.Nat.{ℕ, zero, suc, _+_, _*_, _-_, _<_, _≤_}
+use mathlib.Core.Path.{_≡_, refl, sym, _∙_, ap, ap₂}
 use mathlib.Core.List.{List, [], _∷_, _++_, append-assoc, append-nil}
-use native.Mathlib.Nat.{mul-le-mul, mul-le-mul-right, suc-mul}
+use native.Mathlib.Decide.{ℕ-discrete}
+use native.Mathlib.Nat.{mul-le-mul, mul-le-mul-right, suc-mul, zero-mul}
 use native.Mathlib.Numerals.{add-one}
 use native.Mathlib.Omega.{arith}
-use lib.ListN.{length, take, drop}
-use lib.Seq.{take-all}
+use borrow.Rule.Slice.PartMut.{putMid, same-len-mid, take-put, drop-put}
+use lib.ListN.{length, take, drop, length-drop, take-append-drop}
+use lib.Seq.{take-all, take-at, drop-at, take-add, drop-drop, take-append-le, drop-append-le, length-take-le}
 use Rattle.basics.specs.Lists.{table}
-use Rattle.basics.proofs.Lists.{part-length, extended}
+use Rattle.basics.proofs.Lists.{part-length}
 use Rattle.coder.specs.Outcomes.{joined}
+use Rattle.matrix.specs.Given.{part}
 
 -- ---- k rows of n, with k and n as the code test bounds them
 
--- where a row ends is where the next one starts
-pub row-end : (n i : ℕ) → i * n + n ≡ (i + 1) * n
-row-end n i = sym (ap (λ j. j * n) (add-one i) ∙ suc-mul i n)
-
 -- a row has its place among them
 pub row-fits : (k n i : ℕ) → i < k → i * n + n ≤ k * n
-row-fits k n i h = rw (row-end n i) (mul-le-mul-right {m = i + 1} {n = k} n (omega arith))
-
--- the part of the buffer that is lent for one
-pub row-length : (n start : ℕ) (out : List ℕ) → start + n ≤ length out → length (take (start + n - start) (drop start out)) ≡ n
-row-length n start out h = let size : start + n - start ≡ n = omega arith in part-length out start (start + n - start) (omega arith) ∙ size
-
--- a place has its index in it
-pub place-inside : (n start p : ℕ) (out : List ℕ) → start + n ≤ length out → p ≤ n → p ≤ length (take (start + n - start) (drop start out))
-place-inside n start p out h most = omega (arith, row-length n start out h)
+row-fits k n i h = rw (sym (ap (λ j. j * n) (add-one i) ∙ suc-mul i n)) (mul-le-mul-right {m = i + 1} {n = k} n (omega arith))
 
 pub rows-small : {k n : ℕ} → k ≤ 288 → n ≤ 288 → k * n ≤ 82944
 rows-small h g = mul-le-mul h g
+
+-- ---- the part of row i is lent, and z comes back
+
+-- a part that ends before c
+part-early : (n a c : ℕ) (l : List ℕ) → a + n ≤ c → c ≤ length l → take n (drop a l) ≡ take n (drop a (take c l))
+part-early n a c l h g =
+    let front : length (take c l) ≡ c = length-take-le c l g in
+    let rest : length (drop a (take c l)) ≡ c - a = length-drop a (take c l) ∙ ap (λ y. y - a) front in
+    ap (λ y. take n (drop a y)) (sym (take-append-drop c l)) ∙ ap (take n) (drop-append-le a (take c l) (drop c l) (omega (arith, front)))
+    ∙ take-append-le n (drop a (take c l)) (drop c l) (omega (arith, rest))
+
+-- the buffer when z is back
+abbrev pub returned : ℕ → ℕ → List ℕ → List ℕ → List ℕ
+returned n i out z = putMid (i * n) (i * n + n - i * n) out z
+
+module _ (n i : ℕ) (out : List ℕ) (fits : i * n + n ≤ length out) where
+  pub lent-part : take (i * n + n - i * n) (drop (i * n) out) ≡ part n i out
+  lent-part = let size : i * n + n - i * n ≡ n = omega arith in ap (λ y. take y (drop (i * n) out)) size
+
+  pub lent-size : length (take (i * n + n - i * n) (drop (i * n) out)) ≡ n
+  lent-size = ap length lent-part ∙ part-length out (i * n) n fits
+
+  module _ (z : List ℕ) (size : length z ≡ n) where
+    pub returned-size : length (returned n i out z) ≡ length out
+    returned-size = same-len-mid (i * n) (i * n + n - i * n) out z (size ∙ sym lent-size)
+
+    pub part-same : part n i (returned n i out z) ≡ z
+    part-same = ap (take n) (drop-at (take (i * n) out) _ (i * n) (length-take-le (i * n) out (omega arith))) ∙ take-at z _ n size
+
+    pub part-other : (j : ℕ) → (j ≡ i → ⊥) → part n j (returned n i out z) ≡ part n j out
+    part-other j d =
+        elim (ℕ-discrete (i - j) 0) [
+          | yes e ↦
+              ap (take n)
+              (sym (later (returned n i out z) (omega arith)) ∙ ap (drop (j * n - (i * n + n))) (drop-put (i * n) (i * n + n) out z (omega arith) fits (omega (arith, size))) ∙ later out (omega arith))
+          | no e ↦
+              part-early n (j * n) (i * n) (returned n i out z) (row-fits i n j (omega arith)) (omega (arith, returned-size))
+              ∙ ap (λ y. take n (drop (j * n) y)) (take-put (i * n) (i * n + n - i * n) out z (omega arith))
+              ∙ sym (part-early n (j * n) (i * n) out (row-fits i n j (omega arith)) (omega arith))
+        ]
+      where
+        later : (l : List ℕ) → i < j → drop (j * n - (i * n + n)) (drop (i * n + n) l) ≡ drop (j * n) l
+        later l h =
+            let whole : i * n + n + (j * n - (i * n + n)) ≡ j * n = omega (arith, row-fits j n i h) in
+            drop-drop (j * n - (i * n + n)) (i * n + n) l ∙ ap (λ y. drop y l) whole
 
 -- ---- the rows f 0, f 1, .. joined
 
@@ -38,20 +74,13 @@ joined-append : (a b : List (List ℕ)) → joined (a ++ b) ≡ joined a ++ join
 joined-append [] b = refl
 joined-append (r ∷ a) b = ap (λ l. r ++ l) (joined-append a b) ∙ sym (append-assoc r (joined a) (joined b))
 
-module _ (f : ℕ → List ℕ) where
-  joined-more : (i : ℕ) → joined (table f i) ++ f i ≡ joined (table f (i + 1))
-  joined-more i =
-      ap (λ r. joined (table f i) ++ r) (sym (append-nil (f i))) ∙ sym (joined-append (table f i) (f i ∷ []))
-      ∙ ap (λ j. joined (table f j)) (sym (add-one i))
+-- all parts fill the buffer
+module _ (f : ℕ → List ℕ) (k n : ℕ) (out : List ℕ) (is : (i : ℕ) → i < k → part n i out ≡ f i) where
+  parts-front : (i : ℕ) → i ≤ k → take (i * n) out ≡ joined (table f i)
+  parts-front zero h = rw zero-mul
+  parts-front (suc i) h =
+      ap (λ y. take y out) (suc-mul i n) ∙ take-add (i * n) n out ∙ ap₂ (λ a b. a ++ b) (parts-front i (omega arith)) (is i h)
+      ∙ sym (joined-append (table f i) (f i ∷ []) ∙ ap (λ r. joined (table f i) ++ r) (append-nil (f i)))
 
-  -- the first rows stand in the buffer, and z comes back for the part that was lent behind them
-  pub rows-more : (n i : ℕ) (out : List ℕ) {z : List ℕ} (r : List ℕ) → i * n + n ≤ length out → take (i * n) out ≡ joined (table f i)
-      → length (f i) ≡ n → z ≡ f i → take ((i + 1) * n) (take (i * n) out ++ (z ++ r)) ≡ joined (table f (i + 1))
-  rows-more n i out {z} r fits before size row =
-      let kept : length z ≡ length (take (i * n + n - i * n) (drop (i * n) out)) = ap length row ∙ size ∙ sym (row-length n (i * n) out fits) in
-      ap (λ m. take m (take (i * n) out ++ (z ++ r))) (sym (row-end n i)) ∙ extended out z r (i * n) (i * n + n) (omega arith) fits kept
-      ∙ ap (λ l. l ++ z) before ∙ ap (λ l. joined (table f i) ++ l) row ∙ joined-more i
-
-  -- all rows fill the buffer
-  pub rows-all : (k n : ℕ) {out : List ℕ} → length out ≡ k * n → take (k * n) out ≡ joined (table f k) → out ≡ joined (table f k)
-  rows-all k n {out} size e = sym (take-all (k * n) out (omega arith)) ∙ e
+  pub parts-all : length out ≡ k * n → out ≡ joined (table f k)
+  parts-all size = sym (take-all (k * n) out (omega arith)) ∙ parts-front k (omega arith)

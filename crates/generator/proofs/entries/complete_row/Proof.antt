@@ -1,11 +1,10 @@
 -- The loop's invariant: the row is complete at the points of the slots before s.
-use Prim.Native.Nat.{_-_, _≤_, _<_}
-use mathlib.Core.Path.{_≡_, refl, _∙_}
+use Prim.Native.Nat.{_-_, _≤_}
+use mathlib.Core.Path.{_≡_, refl}
 use mathlib.Core.Logic.{⊎-elim}
 use native.Mathlib.Omega.{arith}
 use lib.ListN.{length, length-set}
 use Rattle.generator.proofs.Symbols.{Completing, completing-none, completing-over, completing-away, completing-all}
-use borrow.Author.Needs.{needs}
 use Rattle.generator.proofs.entries.complete_row.Statement.{statement}
 use Rattle.generator.proofs.entries.complete_row.Tie as tie
 

@@ -1,6 +1,6 @@
 -- The loop's invariant: the parts of the slots before s are at the indices of their points, and added to their sums.
-use Prim.Native.Nat.{_-_, _≤_, _<_}
-use mathlib.Core.Path.{_≡_, refl, _∙_}
+use Prim.Native.Nat.{_-_, _≤_}
+use mathlib.Core.Path.{_≡_, refl}
 use native.Mathlib.Omega.{arith}
 use lib.ListN.{length, getD, length-set}
 use Rattle.field.specs.Sum.{_⊕_}
@@ -8,7 +8,6 @@ use Rattle.values.specs.Values.{Sweeping}
 use Rattle.values.proofs.Sweeps.{sweeping-none, sweeping-turn}
 use Rattle.generator.specs.Rows.{partAt}
 use Rattle.generator.proofs.Symbols.{Filling, filling-none, filling-turn, filling-all, part-by, sum-by}
-use borrow.Author.Needs.{needs}
 use Rattle.generator.proofs.entries.fill_parts.Statement.{statement}
 use Rattle.generator.proofs.entries.fill_parts.Tie as tie
 

@@ -33,7 +33,7 @@ fill-parts-requires c κs =
     let h = entry (after-clear c) .pre in
     let g = h .1 in
     let size : length (entry (after-clear c) .args .row .now) ≡ length (entry (after-clear c) .args .xs .now) = g .0 .row-size in
-    (h .0, ((slots-of (after-clear c .clear .kept .0 ∙ size) (g .0), g .1, g .2, g .3), (c .before .before .before .before .factor .ensures, c .before .before .factor2 .ensures, after-clear c .clear .ensures ∙ ap (λ n. replicate n 0) size)))
+    (h .0, ((slots-of (g .0 .sum-size) (after-clear c .clear .kept .0 ∙ size) (g .0), g .1, g .2, g .3), (c .before .before .before .before .factor .ensures, c .before .before .factor2 .ensures, after-clear c .clear .ensures ∙ ap (λ n. replicate n 0) size)))
 
 same-length : tie.Need-same-length
 same-length c = search needs

@@ -24,8 +24,11 @@ after-zero-chosen c = c .before .before .before .before .before .before
 abbrev after-rows-turn : tie.After-write-rows-arg7 → tie.After-rows-turn
 after-rows-turn c = c .before .before .before .before .before .before .before .before .before .before .before .before .before .before .before
 
-abbrev past-if1 : tie.After-slice-known18 → tie.Else1
-past-if1 c = after-rows-turn (c .before .before .before .before .before) .before .before .before .before .before .before
+abbrev after-write-rows : tie.After-slice-known20 → tie.After-write-rows
+after-write-rows c = c .before .before .before .before .before .before .before .before
+
+abbrev past-if1 : tie.After-slice-known20 → tie.Else1
+past-if1 c = after-rows-turn (after-write-rows c .before) .before .before .before .before .before .before
 
 begin-rows-requires : tie.Need-begin-rows-requires
 begin-rows-requires c κs = search needs
@@ -89,9 +92,11 @@ write-rows-requires c κs =
       s .pre .0,
       (
         record {
-          lists = record { points = omega (arith, size, a .k-most); firsts = omega (arith, t .1 .1 .1 .1 .1 .1 .1 .0, k .1 .1 .1 .1 .1 .1 .1 .1 .1 .0, pre .2 .firsts, a .k-most); seconds = omega (arith, t .1 .1 .1 .1 .1 .1 .1 .1 .0, k .1 .1 .1 .1 .1 .1 .1 .1 .1 .1 .0, pre .2 .seconds, a .k-most) };
+          points = omega (arith, size, a .k-most);
           lows = t .1 .1 .1 .1 .1 .0 ∙ k .1 .1 .1 .1 .1 .1 .1 .0 ∙ pre .2 .lows ∙ sym size;
           highs = t .1 .1 .1 .1 .1 .1 .0 ∙ k .1 .1 .1 .1 .1 .1 .1 .1 .0 ∙ pre .2 .highs ∙ sym size;
+          firsts = t .1 .1 .1 .1 .1 .1 .1 .0 ∙ k .1 .1 .1 .1 .1 .1 .1 .1 .1 .0 ∙ pre .2 .firsts ∙ sym size;
+          seconds = t .1 .1 .1 .1 .1 .1 .1 .1 .0 ∙ k .1 .1 .1 .1 .1 .1 .1 .1 .1 .1 .0 ∙ pre .2 .seconds ∙ sym size;
           most = omega (arith, size, a .n-most);
           places = rw size (places-in (pre .0));
           apart = apart (pre .0);
@@ -106,16 +111,16 @@ same-length-6 : tie.Need-same-length-6
 same-length-6 c = after-begin-rows (past-if1 c .before .before) .begin-rows .kept .1 .1 .1 .1 .1 .1 .0
 
 same-length-7 : tie.Need-same-length-7
-same-length-7 c = after-rows-turn (c .before .before .before .before .before) .rows-turn .kept .1 .1 .1 .1 .1 .0 ∙ after-begin-rows (past-if1 c .before .before) .begin-rows .kept .1 .1 .1 .1 .1 .1 .1 .0
+same-length-7 c = after-rows-turn (after-write-rows c .before) .rows-turn .kept .1 .1 .1 .1 .1 .0 ∙ after-begin-rows (past-if1 c .before .before) .begin-rows .kept .1 .1 .1 .1 .1 .1 .1 .0
 
 same-length-8 : tie.Need-same-length-8
-same-length-8 c = after-rows-turn (c .before .before .before .before .before) .rows-turn .kept .1 .1 .1 .1 .1 .1 .0 ∙ after-begin-rows (past-if1 c .before .before) .begin-rows .kept .1 .1 .1 .1 .1 .1 .1 .1 .0
+same-length-8 c = after-rows-turn (after-write-rows c .before) .rows-turn .kept .1 .1 .1 .1 .1 .1 .0 ∙ after-begin-rows (past-if1 c .before .before) .begin-rows .kept .1 .1 .1 .1 .1 .1 .1 .1 .0
 
 same-length-9 : tie.Need-same-length-9
-same-length-9 c = after-rows-turn (c .before .before .before .before .before) .rows-turn .kept .1 .1 .1 .1 .1 .1 .1 .0 ∙ after-begin-rows (past-if1 c .before .before) .begin-rows .kept .1 .1 .1 .1 .1 .1 .1 .1 .1 .0
+same-length-9 c = after-write-rows c .write-rows .kept .1 .1 .1 .1 .1 .1 .1 .1 .0 ∙ after-rows-turn (after-write-rows c .before) .rows-turn .kept .1 .1 .1 .1 .1 .1 .1 .0 ∙ after-begin-rows (past-if1 c .before .before) .begin-rows .kept .1 .1 .1 .1 .1 .1 .1 .1 .1 .0
 
 same-length-10 : tie.Need-same-length-10
-same-length-10 c = after-rows-turn (c .before .before .before .before .before) .rows-turn .kept .1 .1 .1 .1 .1 .1 .1 .1 .0 ∙ after-begin-rows (past-if1 c .before .before) .begin-rows .kept .1 .1 .1 .1 .1 .1 .1 .1 .1 .1 .0
+same-length-10 c = after-write-rows c .write-rows .kept .1 .1 .1 .1 .1 .1 .1 .1 .1 .0 ∙ after-rows-turn (after-write-rows c .before) .rows-turn .kept .1 .1 .1 .1 .1 .1 .1 .1 .0 ∙ after-begin-rows (past-if1 c .before .before) .begin-rows .kept .1 .1 .1 .1 .1 .1 .1 .1 .1 .1 .0
 
 same-length-11 : tie.Need-same-length-11
 same-length-11 c = search needs
@@ -128,9 +133,9 @@ returns-2 c =
     let s = entry (past-if1 c .before .before .before .before) in
     let pre = s .pre .1 in
     let b = after-begin-rows (past-if1 c .before .before) .begin-rows .ensures in
-    let w = c .before .before .before .before .write-rows .ensures in
+    let w = after-write-rows c .write-rows .ensures in
     let works = decides (pre .0) (pre .1) b (past-if1 c .before .zero-chosen .ensures) ∙ ap not (past-if1 c .if1 .left) in
-    pass _ works (accept-pair (w .0 ∙ completes (pre .0) (pre .1) b works (after-rows-turn (c .before .before .before .before .before) .rows-turn .ensures .1)) (w .1))
+    pass _ works (accept-pair (w .0 ∙ completes (pre .0) (pre .1) b works (after-rows-turn (after-write-rows c .before) .rows-turn .ensures .1)) (w .1))
 
 pub matrix-in-spec : {M : Type 1} → statement M
 matrix-in-spec =

@@ -1,135 +1,119 @@
--- The loop's invariant: the symbols of the first i rows stand in the buffer.
-use mathlib.Core.Path.{_≡_, refl, _∙_}
-use Prim.Native.Nat.{_+_, _*_, _-_, _≤_}
-use native.Mathlib.Nat.{zero-mul}
-use native.Mathlib.Omega.{arith}
-use borrow.Rule.Slice.PartMut.{same-len-mid}
-use lib.ListN.{length, take}
+-- The indices stand behind the factors, then the parts are written and added, and then the rows completed.
+use mathlib.Core.Path.{_≡_, refl, sym, _∙_, ap}
+use lib.ListN.{length}
 use Rattle.basics.specs.Lists.{table}
 use Rattle.coder.specs.Outcomes.{joined}
-use Rattle.matrix.specs.Given.{rowAt}
-use Rattle.matrix.proofs.Marks.{marks-size, marks-rest, row-size}
-use Rattle.matrix.proofs.Joined.{row-fits, row-length, place-inside, rows-small, rows-more, rows-all}
+use Rattle.values.specs.Values.{one}
+use Rattle.generator.specs.Rows.{Indexed, Slots}
+use Rattle.generator.proofs.Turns.{slots-of}
+use Rattle.matrix.specs.Given.{frees, rowAt}
+use Rattle.matrix.proofs.Joined.{parts-all}
+use Rattle.matrix.proofs.Marks.{marked, indexed-as, rows-kept, row-complete}
 use borrow.Author.Needs.{needs}
 use Rattle.matrix.proofs.write.fill_rows.Statement.{statement}
 use Rattle.matrix.proofs.write.fill_rows.Tie as tie
 
-abbrev Inv-loop : tie.InvT-loop
-Inv-loop m powers logs k places free px l u a b out₀ n i₀ out i = (i ≤ k) × (take (i * length px) out ≡ joined (table (rowAt m k places px l u a b) i)) × (length out ≡ length out₀)
+-- the moments of the run, each seen from a later one
+abbrev start : tie.After-index-rest-arg3 → tie.Start
+start c = c .before .before .before .before .before .before .before .before .before .before .before
 
-abbrev μ-loop : tie.MeasureT-loop
-μ-loop m powers logs k places free px l u a b out₀ n i₀ out i = k - i
+abbrev after-index-rest : tie.After-part-rows-arg4 → tie.After-index-rest
+after-index-rest c = c .before .before .before .before .before .before .before .before .before .before .before .before .before .before
 
-abbrev entry : tie.In-loop Inv-loop μ-loop → tie.Start Inv-loop μ-loop
-entry c = c .before .before .before .before .before .before .before .before .before .before
+abbrev after-fill-ones : tie.After-part-rows-arg4 → tie.After-fill-ones
+after-fill-ones c = c .before .before .before .before .before .before
 
--- where row i ends is within the buffer, which is small
-room : (c : tie.In-loop Inv-loop μ-loop) → let n = length (entry c .args .px .now) in (c .before .loop .i * n + n ≤ entry c .args .k * n) × (entry c .args .k * n ≤ 82944)
-room c =
-    let g = entry c .args in
-    let f = entry c .pre .1 .0 in
-    (row-fits (g .k) (length (g .px .now)) (c .before .loop .i) (c .loop-test .taken), rows-small (omega (arith, f .lists .points, f .most)) (f .most))
+abbrev entry : tie.After-part-rows-arg4 → tie.Start
+entry c = start (after-index-rest c .before)
 
--- so that its part can be lent
-part : (c : tie.In-loop Inv-loop μ-loop) → c .before .loop .i * length (entry c .args .px .now) + length (entry c .args .px .now) ≤ length (c .before .loop .out)
-part c = omega (arith, room c, c .before .loop .inv .2, entry c .pre .1 .0 .room)
+abbrev after-part-rows : tie.After-complete-rows-arg4 → tie.After-part-rows
+after-part-rows c = c .before .before .before .before .before .before .before .before
 
-loop-holds : tie.Need-loop-holds Inv-loop μ-loop
-loop-holds c = (omega arith, rw zero-mul, refl)
+-- the indices of the free points
+indexed : (c : tie.After-part-rows-arg4) → let g = entry c .args in let r = after-index-rest c .index-rest in
+    Indexed (g .k) (length (g .px .now)) (frees (g .places .now) (g .px .now)) (r .last .1 .1 .0) (r .last .1 .1 .1 .0)
+indexed c = let g = entry c .args in indexed-as (g .k) (g .places .now) (g .px .now) (g .sums .now) _ _ (entry c .pre .1 .1) (after-index-rest c .index-rest .ensures .indexed)
 
-chosen-place-requires : tie.Need-chosen-place-requires Inv-loop μ-loop
-chosen-place-requires c κs = omega (arith, c .loop-test .taken, entry c .pre .1 .0 .full)
+sums-size : (c : tie.After-part-rows-arg4) → length (after-fill-ones c .fill-ones .last .0) ≡ length (entry c .args .px .now)
+sums-size c = after-fill-ones c .fill-ones .kept .0 ∙ after-index-rest c .index-rest .kept .1 .1 .1 .1 .0 ∙ entry c .pre .1 .1
 
-mul-start : tie.Need-mul-start Inv-loop μ-loop
-mul-start c = omega (arith, room (c .before))
+slots : (c : tie.After-part-rows-arg4) → let g = entry c .args in let r = after-index-rest c .index-rest in
+    Slots (g .k) (g .px .now) (r .last .1 .1 .0) (r .last .1 .1 .1 .0) (after-fill-ones c .fill-ones .last .0) (g .px .now)
+slots c =
+    let w = entry c .pre .1 .0 in
+    let kept = after-index-rest c .index-rest .kept in
+    record {
+      points = w .points;
+      first-size = kept .1 .1 .0 ∙ w .firsts;
+      second-size = kept .1 .1 .1 .0 ∙ w .seconds;
+      sum-size = sums-size c;
+      row-size = refl;
+      inside = indexed c .inside;
+      most = w .most;
+    }
 
-add-end : tie.Need-add-end Inv-loop μ-loop
-add-end c = omega (arith, room (c .before))
-
-sub-row : tie.Need-sub-row Inv-loop μ-loop
-sub-row c = omega arith
-
-part-row-start : tie.Need-part-row-start Inv-loop μ-loop
-part-row-start c = omega arith
-
-part-row-end : tie.Need-part-row-end Inv-loop μ-loop
-part-row-end c = omega (arith, part (c .before))
-
-fill-row-requires : tie.Need-fill-row-requires Inv-loop μ-loop
-fill-row-requires c κs =
-    let turn = c .before .before in
-    let s = entry turn in
+index-rest-requires : tie.Need-index-rest-requires
+index-rest-requires c κs =
+    let s = start c in
     let g = s .args in
-    let f = s .pre .1 .0 in
-    let n = length (g .px .now) in
-    let out = turn .before .loop .out in
-    let own = f .places (turn .before .loop .i) (omega (arith, turn .loop-test .taken, f .full)) in
-    let is = c .before .chosen-place .ensures in (
-      s .pre .0,
-      (
-        (f .lists, f .lows, f .highs, f .most),
-        (
-          omega (arith, turn .loop-test .taken),
-          omega (arith, is, own .0),
-          place-inside n _ _ out (omega (arith, part turn)) (omega (arith, is, own .1)),
-          row-length n _ out (omega (arith, part turn)),
-          marks-size (g .places .now) (g .px .now) (s .pre .1 .1),
-          marks-rest (g .places .now) (g .px .now) (s .pre .1 .1) f,
-        ),
-      ),
-    )
+    let w = s .pre .1 .0 in
+    let size = s .pre .1 .1 in
+    (rw size (w .places), marked (g .k) (length (g .px .now)) (g .places .now) (g .sums .now) size (w .most) (w .places) (w .apart) (w .full), w .firsts ∙ sym size, w .seconds ∙ sym size)
 
-add-i : tie.Need-add-i Inv-loop μ-loop
-add-i c =
-    let turn = c .before .before .before .before .before in
-    let f = entry turn .pre .1 .0 in
-    record { fits = omega (arith, turn .loop-test .taken, f .lists .points, f .most) }
+fill-ones-requires : tie.Need-fill-ones-requires
+fill-ones-requires c κs = search needs
 
-loop-less : tie.Need-loop-less Inv-loop μ-loop
-loop-less c = search needs
+part-rows-requires : tie.Need-part-rows-requires
+part-rows-requires c κs =
+    let w = entry c .pre .1 .0 in
+    let size = after-index-rest c .index-rest .kept .1 .1 .1 .1 .0 ∙ entry c .pre .1 .1 in
+    (entry c .pre .0, (slots c, w .lows, w .highs, w .room, after-fill-ones c .fill-ones .ensures ∙ ap (table one) size))
 
-loop-again : tie.Need-loop-again Inv-loop μ-loop
-loop-again c =
-    let turn = c .before .before .before .before .before in
-    let s = entry turn in
-    let a = s .args in
-    let at = turn .before .loop in
-    let n = length (a .px .now) in
-    let r = c .before .before .fill-row in
-    let R = rowAt (a .m) (a .k) (a .places .now) (a .px .now) (a .l .now) (a .u .now) (a .a .now) (a .b .now) in
-    let entries = rw (c .before .before .before .before .chosen-place .ensures) at (rw (s .pre .1 .1) at (r .ensures)) in (
-      omega (arith, turn .loop-test .taken),
-      rows-more R n (at .i) (at .out) _ (part turn) (at .inv .1) (row-size (a .m) (a .k) (a .places .now) (a .px .now) (a .l .now) (a .u .now) (a .a .now) (a .b .now) (at .i)) entries,
-      same-len-mid (at .i * n) (at .i * n + n - at .i * n) (at .out) (r .last .1 .1 .1 .1 .1 .1 .1 .1 .1 .1 .1 .1 .0) (r .kept .1 .1 .1 .1 .1 .1 .1 .1 .1 .1 .1 .1 .0) ∙ at .inv .2,
-    )
+complete-rows-requires : tie.Need-complete-rows-requires
+complete-rows-requires c κs =
+    let earlier = after-part-rows c .before in
+    let w = entry earlier .pre .1 .0 in
+    let kept = after-part-rows c .part-rows .kept in
+    (slots-of (kept .1 .1 .1 .1 .1 .1 .1 .1 .1 .0 ∙ sums-size earlier) refl (slots earlier), w .places, w .full, kept .1 .1 .1 .1 .1 .1 .1 .1 .1 .1 .0 ∙ w .room)
 
-same-length : tie.Need-same-length Inv-loop μ-loop
-same-length c = c .before .loop .inv .2
+same-length : tie.Need-same-length
+same-length c = search needs
 
-returns : tie.Need-returns Inv-loop μ-loop
+same-length-2 : tie.Need-same-length-2
+same-length-2 c = search needs
+
+same-length-3 : tie.Need-same-length-3
+same-length-3 c = search needs
+
+same-length-4 : tie.Need-same-length-4
+same-length-4 c = search needs
+
+returns : tie.Need-returns
 returns c =
-    let s = c .before .before .before .before .before .before .before .before .before .before in
-    let a = s .args in
-    let at = c .before .loop in
-    let full : at .i ≡ a .k = omega arith in
-    rows-all _ (a .k) (length (a .px .now)) (at .inv .2 ∙ s .pre .1 .0 .room) (rw full at (at .inv .1))
+    let last = c .before .before .before in
+    let earlier = after-part-rows last .before in
+    let g = entry earlier .args in
+    let w = entry earlier .pre .1 .0 in
+    let n = length (g .px .now) in
+    let r = after-index-rest earlier .index-rest in
+    let a = r .last .1 .1 .0 in
+    let b = r .last .1 .1 .1 .0 in
+    let done = c .before .before .complete-rows in
+    parts-all (rowAt (g .m) (g .k) (g .places .now) (g .px .now) (g .l .now) (g .u .now) a b) (g .k) n (done .last .1 .1 .1 .1 .1 .1 .0)
+    (λ i h. row-complete (g .m) (g .k) (g .places .now) (g .px .now) (g .l .now) (g .u .now) a b (indexed earlier) (after-part-rows last .part-rows .ensures) h (done .ensures i h))
+    (done .kept .1 .1 .1 .1 .1 .1 .0 ∙ after-part-rows last .part-rows .kept .1 .1 .1 .1 .1 .1 .1 .1 .1 .1 .0 ∙ w .room)
+    ∙ ap joined (rows-kept (g .m) (g .k) (g .places .now) (g .px .now) (g .l .now) (g .u .now) (g .a .now) (g .b .now) a b (r .ensures .firsts) (r .ensures .seconds))
 
 pub fill-rows-spec : {M : Type 1} → statement M
 fill-rows-spec =
     tie.close
     (tie.spec
-    Inv-loop
-    μ-loop
-    loop-holds
-    chosen-place-requires
-    mul-start
-    add-end
-    sub-row
-    part-row-start
-    part-row-end
-    fill-row-requires
-    add-i
-    loop-less
-    loop-again
+    index-rest-requires
+    fill-ones-requires
+    part-rows-requires
+    complete-rows-requires
     same-length
+    same-length-2
+    same-length-3
+    same-length-4
     returns)
