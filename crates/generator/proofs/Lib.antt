@@ -4,3 +4,4 @@ pub mod Turns
 pub mod Symbols
 pub mod Adding
 pub mod Words
+mod Progress

@@ -1,2 +1,3 @@
 -- What the arrays of the rows hold.
 pub mod Rows
+pub mod Advance

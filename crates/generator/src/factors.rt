@@ -64,7 +64,7 @@ fn find_over(xs: &[u8], count: usize, alpha: u8) -> usize
 }
 
 // The rows so far with one more point, and its own row, where the function that is raised is rc and the other t·rc.
-fn raise_rows(
+pub fn raise_rows(
     m: u8,
     powers: &[u8; 1021],
     logs: &[u16; 512],
@@ -117,7 +117,7 @@ fn raise_either(
 }
 
 // The rows so far with one more point: L is in l and U in u.
-fn rows_step(
+pub fn rows_step(
     m: u8,
     powers: &[u8; 1021],
     logs: &[u16; 512],

@@ -1,5 +1,5 @@
 // The rows of all points but the last, after which it is known whether they are dependent.
-use crate::factors::rows_turn;
+use crate::advance::advance_turn;
 use arrangement::arrange::fill_ones;
 use basics::MessageIndex;
 use engine::pair::Sizes;
@@ -35,8 +35,9 @@ pub fn run_rows(
     let last = count - 1;
     let mut i = 0;
     while i < last {
-        n = rows_turn(m, powers, logs, MessageIndex(i), xs, l, u, a, b, n);
-        i += 1;
+        let d = advance_turn(m, powers, logs, MessageIndex(i), last, xs, l, u, a, b, n);
+        n = d.sizes;
+        i = d.count;
     }
     n
 }

@@ -46,7 +46,7 @@ module _ {m : ℕ} (k : IsField m) {xs : List ℕ} {i : ℕ} (inside : i + 1 < l
   low-at : (j : ℕ) → j < length xs → getD L j 0 ≡ raisedAt m xs (getD xs i 0) l j
   low-at j h = getD-table (raisedAt m xs (getD xs i 0) l) (length xs) j 0 h
 
-  pub high-at : (j : ℕ) → j < length xs → getD U j 0 ≡ gainedAt m (w .t) l u j
+  high-at : (j : ℕ) → j < length xs → getD U j 0 ≡ gainedAt m (w .t) l u j
   high-at j h = getD-table (gainedAt m (w .t) l u) (length xs) j 0 h
 
   low-size : length L ≡ length xs
@@ -55,11 +55,14 @@ module _ {m : ℕ} (k : IsField m) {xs : List ℕ} {i : ℕ} (inside : i + 1 < l
   high-size : length U ≡ length xs
   high-size = length-table (gainedAt m (w .t) l u) (length xs)
 
-  some-between : getD U (i + 1) 0 ≡ 0 → ⊥
-  some-between z = turns .next-some (turns .are .next ∙ sym (high-at (i + 1) inside) ∙ z)
+  pub next-between : w .next ≡ getD U (i + 1) 0
+  next-between = turns .are .next ∙ sym (high-at (i + 1) inside)
 
-  factor-between : w .s ≡ product m (getD L (i + 1) 0) (inverse m (getD U (i + 1) 0))
-  factor-between = turns .are .second ∙ ap₂ (λ a b. product m a (inverse m b)) (sym (low-at (i + 1) inside)) (turns .are .next ∙ sym (high-at (i + 1) inside))
+  pub some-between : getD U (i + 1) 0 ≡ 0 → ⊥
+  some-between z = turns .next-some (next-between ∙ z)
+
+  pub factor-between : w .s ≡ product m (getD L (i + 1) 0) (inverse m (getD U (i + 1) 0))
+  factor-between = turns .are .second ∙ ap₂ (λ a b. product m a (inverse m b)) (sym (low-at (i + 1) inside)) next-between
 
   -- the second
   module _ {a b : List ℕ} {e : ℕ} (x : Swept (gainedTwice m xs (getD xs i 0) (w .t) (w .s) l u) e l a) (y : Swept (raisedTwice m xs (w .t) (getD xs (i + 1) 0) l u) e u b) where

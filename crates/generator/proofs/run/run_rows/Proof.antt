@@ -1,15 +1,15 @@
 -- The loop's invariant: the arrays show the pair of the first i points at the later ones, and their rows.
 use mathlib.Core.Path.{_≡_, refl, sym, _∙_, ap}
-use Prim.Native.Nat.{_≤_, _<_, _-_}
+use Prim.Native.Nat.{_≤_, _-_}
 use native.Mathlib.Omega.{arith}
 use lib.ListN.{length}
 use Rattle.basics.specs.Lists.{table}
 use Rattle.elliptic.specs.Pair.{after}
 use Rattle.values.specs.Values.{ShownIn, one}
-use Rattle.values.proofs.Runs.{begins, fits, first-more}
+use Rattle.values.proofs.Runs.{begins, fits}
 use Rattle.generator.specs.Rows.{Rows, pairAfter}
 use Rattle.generator.proofs.Turns.{rows-sized}
-use Rattle.generator.proofs.Words.{rows-next}
+use Rattle.generator.proofs.Progress.{rows-order}
 use borrow.Author.Needs.{needs}
 use Rattle.generator.proofs.run.run_rows.Statement.{statement}
 use Rattle.generator.proofs.run.run_rows.Tie as tie
@@ -24,11 +24,11 @@ abbrev μ-loop : tie.MeasureT-loop
 abbrev start : tie.After-first-sizes Inv-loop μ-loop → tie.Start Inv-loop μ-loop
 start c = c .before .before .before .before .before .before .before .before .before .before
 
-abbrev after-rows-turn : tie.After-slice-known9 Inv-loop μ-loop → tie.After-rows-turn Inv-loop μ-loop
-after-rows-turn c = c .before .before .before .before .before .before .before .before
+abbrev after-turn : tie.After-n Inv-loop μ-loop → tie.After-advance-turn Inv-loop μ-loop
+after-turn c = c .before .before .before .before .before .before .before .before .before
 
-abbrev in-loop : tie.After-slice-known9 Inv-loop μ-loop → tie.In-loop Inv-loop μ-loop
-in-loop c = after-rows-turn c .before .before .before .before .before
+abbrev in-loop : tie.After-n Inv-loop μ-loop → tie.In-loop Inv-loop μ-loop
+in-loop c = after-turn c .before .before .before .before .before
 
 fill-ones-requires : tie.Need-fill-ones-requires Inv-loop μ-loop
 fill-ones-requires c κs = search needs
@@ -49,43 +49,29 @@ loop-holds c =
     let p = begins (entry .pre .0 .field) c0 (n .0) (n .1) (n .2) (ones .fill-ones .ensures ∙ ap (table one) (entry .pre .1 .0 .1 ∙ sym (c0 .as-many))) refl in
     (ones .fill-ones .kept .0 ∙ entry .pre .1 .0 .1, c0 .as-many, refl, refl, omega arith, p, record { row = λ j l. absurd (omega arith); whole = λ l. absurd (omega arith) })
 
-rows-turn-requires : tie.Need-rows-turn-requires Inv-loop μ-loop
-rows-turn-requires c κs =
+advance-turn-requires : tie.Need-advance-turn-requires Inv-loop μ-loop
+advance-turn-requires c κs =
     let loop = c .before .before .before .before .before in
     let entry = start (loop .before) in
+    let p = entry .pre .1 in
     let v = loop .loop .inv in
     let t = c .before .before .before .before .loop-test .taken in
-    (entry .pre .0, (fits (v .0) (v .1) (entry .pre .1 .1 .0 .small (loop .loop .i) (omega (arith, t))) (v .5), rows-sized (omega (arith, t)) (v .2) (v .3) (entry .pre .1 .0 .2), entry .pre .1 .0 .4))
-
-add-i : tie.Need-add-i Inv-loop μ-loop
-add-i c =
-    let loop = in-loop c .before in
-    let p = start (loop .before) .pre .1 .0 in
-    record { fits = omega (arith, in-loop c .loop-test .taken, p .2 .points, p .4) }
+    (entry .pre .0, (t, omega (arith, p .0 .2 .points), fits (v .0) (v .1) (p .1 .0 .small (loop .loop .i) (omega (arith, t))) (v .5), rows-sized (omega arith) (v .2) (v .3) (p .0 .2), p .0 .4))
 
 loop-less : tie.Need-loop-less Inv-loop μ-loop
-loop-less c = search needs
+loop-less c = omega (arith, after-turn c .advance-turn .ensures .further, in-loop c .loop-test .taken)
 
 loop-again : tie.Need-loop-again Inv-loop μ-loop
 loop-again c =
     let loop = in-loop c .before in
     let entry = start (loop .before) in
-    let g = entry .args in
-    let at = loop .loop in
-    let v = at .inv in
-    let t = in-loop c .loop-test .taken in
-    let r = after-rows-turn c .rows-turn .ensures in
-    let ys = g .u .now in
-    let inside : at .i < length (g .xs .now) = omega (arith, entry .pre .1 .0 .2 .points) in
-    let pair = r .0 .next ys (at .i) _ 0 (omega arith) (omega arith) (entry .pre .1 .1 .0 .small (at .i) (omega arith)) (v .5) in (
-      r .0 .first-size,
-      r .0 .second-size,
-      r .1 .first-size ∙ v .2,
-      r .1 .second-size ∙ v .3,
-      omega arith,
-      rw (first-more (g .m) (g .xs .now) ys (at .i) inside) at pair,
-      rows-next (entry .pre .0 .field) (g .xs .now) ys (g .count) (at .i) (omega arith) inside (entry .pre .1 .1 .1) (at .l) (at .u) (at .n) (v .5) (v .6) (r .1),
-    )
+    let p = entry .pre .1 .1 in
+    let v = loop .loop .inv in
+    let turned = after-turn c in
+    let d = turned .advance-turn .ensures in
+    let k = turned .advance-turn .kept .1 .1 .1 .1 .1 .1 in
+    let (pair, rows) = d .next (entry .args .u .now) (entry .args .count) (omega arith) (p .0) (p .1) (v .5) (rows-order (entry .pre .0 .field) (loop .loop .n .turned) (v .6)) in
+    (k .0 ∙ v .0, k .1 .0 ∙ v .1, k .1 .1 .0 ∙ v .2, k .1 .1 .1 .0 ∙ v .3, d .within, pair, rows)
 
 same-length : tie.Need-same-length Inv-loop μ-loop
 same-length c = c .before .loop .inv .0 ∙ sym (start (c .before .before) .pre .1 .0 .1)
@@ -115,8 +101,7 @@ run-rows-spec =
     first-sizes-requires
     sub-last
     loop-holds
-    rows-turn-requires
-    add-i
+    advance-turn-requires
     loop-less
     loop-again
     same-length
