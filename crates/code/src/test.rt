@@ -16,15 +16,13 @@ use field::size;
 ghost use mathlib.Core.Path.{_≡_};
 ghost use mathlib.Core.Bool.{true};
 ghost use Prim.Native.Nat.{_<_};
-ghost use lib.Dec.{eqb};
 ghost use lib.ListN.{length, replicate};
-ghost use Rattle.basics.specs.Lists.{all, different, table};
 ghost use Rattle.field.specs.Galois.{galois, size};
 ghost use Rattle.field.specs.Tables.{Tables};
 ghost use Rattle.elliptic.specs.Curve.{coefficientsBelow};
-ghost use Rattle.codewords.specs.Code.{codeOf, pointsAt, codeAnswer};
-ghost use Rattle.code.specs.Slots.{slot, slotAt};
-ghost use Rattle.code.specs.Points.{isPoint, countIn, dimensionIn, pointsAnswer};
+ghost use Rattle.codewords.specs.Code.{codeOf, codeAnswer};
+ghost use Rattle.code.specs.Slots.{slot};
+ghost use Rattle.code.specs.Points.{isPoint, Judged, countIn, dimensionIn, pointsAnswer};
 
 // What one pass over the points finds: all are points of the curve; no slot is met twice.
 struct Verdict {
@@ -63,8 +61,7 @@ fn pass_over(
 ) -> Verdict
     requires { ⌜ Tables m (now powers) (now logs) ⌝ }
     requires { ⌜ (length (now xs) ≡ length (now ys)) × (now seen ≡ replicate 512 0) ⌝ }
-    ensures { λ r. ⌜ (r .on ≡ all (isPoint (galois m) c) (pointsAt (now (xs .entry)) (now (ys .entry))))
-        × (r .apart ≡ different eqb (table (slotAt (galois m) c (now (xs .entry)) (now (ys .entry))) (length (now (xs .entry))))) ⌝ }
+    ensures { λ r. ⌜ Judged m c (now (xs .entry)) (now (ys .entry)) (r .on) (r .apart) ⌝ }
 {
     let q = size(m);
     let mut on = true;
@@ -90,8 +87,7 @@ fn pass_over(
 fn judge(m: u8, powers: &[u8; 1021], logs: &[u16; 512], c: Curve, xs: &[u8], ys: &[u8]) -> Verdict
     requires { ⌜ Tables m (now powers) (now logs) ⌝ }
     requires { ⌜ length (now xs) ≡ length (now ys) ⌝ }
-    ensures { λ r. ⌜ (r .on ≡ all (isPoint (galois m) c) (pointsAt (now (xs .entry)) (now (ys .entry))))
-        × (r .apart ≡ different eqb (table (slotAt (galois m) c (now (xs .entry)) (now (ys .entry))) (length (now (xs .entry))))) ⌝ }
+    ensures { λ r. ⌜ Judged m c (now (xs .entry)) (now (ys .entry)) (r .on) (r .apart) ⌝ }
 {
     let mut seen = [0u8; 512];
     pass_over(m, powers, logs, c, xs, ys, &mut seen)

@@ -85,10 +85,11 @@ returns c =
     let l = c .before in
     let s = entry l .args in
     let good = isPoint (galois (s .m)) (s .c) in
-    let e : l .loop .i ≡ length (s .xs .now) = omega arith in (
-      l .loop .inv .2 ∙ ap (λ (k : ℕ). all good (table (listed (s .xs .now) (s .ys .now)) k)) e ∙ ap (all good) (sym (points-table (s .xs .now) (s .ys .now) (entry l .pre .1 .0))),
-      l .loop .inv .3 .apart ∙ ap (λ (k : ℕ). different eqb (table (slotAt (galois (s .m)) (s .c) (s .xs .now) (s .ys .now)) k)) e,
-    )
+    let e : l .loop .i ≡ length (s .xs .now) = omega arith in
+    record {
+      points = l .loop .inv .2 ∙ ap (λ (k : ℕ). all good (table (listed (s .xs .now) (s .ys .now)) k)) e ∙ ap (all good) (sym (points-table (s .xs .now) (s .ys .now) (entry l .pre .1 .0)));
+      slots = l .loop .inv .3 .apart ∙ ap (λ (k : ℕ). different eqb (table (slotAt (galois (s .m)) (s .c) (s .xs .now) (s .ys .now)) k)) e;
+    }
 
 pub pass-over-spec : {M : Type 1} → statement M
 pass-over-spec =

@@ -48,7 +48,7 @@ lengths c = let s = entry (after-is-singular c) .args in eqb-true _ _ (both (eqb
 
 on-ok : (c : tie.Else3) → allOnCurve (code (after-is-singular (after-judge c .before))) ≡ true
 unfolding allOnCurve
-on-ok c = sym (after-judge c .judge .ensures .0) ∙ not-false _ (c .if3 .left)
+on-ok c = sym (after-judge c .judge .ensures .points) ∙ not-false _ (c .if3 .left)
 
 -- of points on the curve, the slots tell whether they are different
 apart-is : (c : tie.Else3) → after-judge c .judge .result .apart ≡ allDifferent (code (after-is-singular (after-judge c .before)))
@@ -56,7 +56,7 @@ unfolding allDifferent allOnCurve
 apart-is c =
     let e = after-judge c .before in
     let s = entry (after-is-singular e) in
-    after-judge c .judge .ensures .1 ∙ slots-differ (s .args .xs .now) (s .args .ys .now) (lengths e) (s .pre .0 .field) (s .args .p .curve) (s .pre .1) (on-ok c)
+    after-judge c .judge .ensures .slots ∙ slots-differ (s .args .xs .now) (s .args .ys .now) (lengths e) (s .pre .0 .field) (s .args .p .curve) (s .pre .1) (on-ok c)
 
 different-ok : (c : tie.Else4) → allDifferent (code (after-is-singular (after-judge (on-curve c) .before))) ≡ true
 different-ok c = sym (apart-is (on-curve c)) ∙ not-false _ (c .if4 .left)
@@ -90,7 +90,7 @@ judge-requires c κs = (entry (after-is-singular c) .pre .0, lengths c)
 
 returns-3 : tie.Need-returns-3
 unfolding pointsAnswer allOnCurve
-returns-3 c = let j = c .before .before in past-count (j .before) _ (refused-by _ _ (sym (j .judge .ensures .0) ∙ not-true _ (c .if3 .taken)))
+returns-3 c = let j = c .before .before in past-count (j .before) _ (refused-by _ _ (sym (j .judge .ensures .points) ∙ not-true _ (c .if3 .taken)))
 
 returns-4 : tie.Need-returns-4
 unfolding pointsAnswer
