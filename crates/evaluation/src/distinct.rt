@@ -5,7 +5,7 @@ ghost use Prim.Native.Nat.{_≤_};
 ghost use lib.ListN.{length, replicate};
 ghost use Rattle.evaluation.specs.Parts.{Lists};
 
-// Each byte of xs to the front of out, and how many there are. All are written, but only one that was not seen before counts.
+// The different bytes of xs, to the front of out; how many there are. Each is written behind those so far, and counts where it was not seen before.
 pub fn distinct(xs: &[u8], seen: &mut [u8; 256], out: &mut [u8; 292]) -> usize
     requires { ⌜ (length (now xs) ≤ 288) × (now seen ≡ replicate 256 0) × (length (now out) ≡ 292) ⌝ }
     ensures { λ d. ⌜ Lists (now (xs .entry)) (now (out .exit)) d ⌝ }

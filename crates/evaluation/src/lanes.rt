@@ -1,4 +1,4 @@
-// Horner's rule at four coordinates at once: a product waits for those before it at its own coordinate alone.
+// Horner's rule at four coordinates at once: a product waits for those before it at its own coordinate alone, and four take little longer than one.
 use basics::byte::wide;
 use field::logarithm;
 use field::product_by_log;

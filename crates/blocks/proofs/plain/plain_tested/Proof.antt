@@ -1,7 +1,8 @@
 -- Test after test, and then the callee writes the values.
 use mathlib.Core.Path.{_≡_, sym, _∙_, ap}
-use native.Mathlib.Nat.{le-of-eq}
 use native.Mathlib.Omega.{arith}
+use Prim.Native.Nat.{_≤_}
+use lib.ListN.{length}
 use borrow.Author.Tests.{eq-eqb, ne-eqb, not-true, not-false}
 use Rattle.basics.specs.Lists.{all}
 use Rattle.basics.proofs.Outcomes.{pass, refuse, accept}
@@ -47,9 +48,12 @@ returns-3 c =
 write-word-requires : tie.Need-write-word-requires
 write-word-requires c κs =
     let e = lengths-tested (c .before .before) in
-    let pre = entry e .pre in
-    let a = accepted-done _ (pre .1) in
-    (pre .0, (le-of-eq (e .if2 .left), le-of-eq (e .if2 .left ∙ a .lengths), a .n-most, omega (arith, a .k-least, e .before .if1 .left)))
+    let s = entry e in
+    let a = accepted-done _ (s .pre .1) in
+    let same : length (s .args .xs .now) ≡ length (s .args .ys .now) = a .lengths in
+    let most : length (s .args .xs .now) ≤ 288 = a .n-most in
+    let room = e .if2 .left in
+    (s .pre .0, (omega (arith, room, same), omega (arith, room, same), omega (arith, most, same), omega (arith, a .k-least, e .before .if1 .left)))
 
 same-length : tie.Need-same-length
 same-length c = search needs
