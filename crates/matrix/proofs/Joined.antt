@@ -23,6 +23,10 @@ row-fits k n i h = rw (sym (ap (λ j. j * n) (add-one i) ∙ suc-mul i n)) (mul-
 pub rows-small : {k n : ℕ} → k ≤ 288 → n ≤ 288 → k * n ≤ 82944
 rows-small h g = mul-le-mul h g
 
+-- a buffer for k rows has a part for row i, and is small
+pub row-room : {k n i : ℕ} (out : List ℕ) → length out ≡ k * n → i < k → k ≤ n → n ≤ 288 → (i * n + n ≤ length out) × (length out ≤ 82944)
+row-room {k} {n} {i} out size h few most = (omega (arith, row-fits k n i h), omega (arith, rows-small {k = k} {n = n} (omega arith) most))
+
 -- ---- the part of row i is lent, and z comes back
 
 -- a part that ends before c

@@ -8,12 +8,12 @@ use mathlib.Core.List.{List, [], _∷_, map}
 use native.Mathlib.Decide.{decLt, ℕ-discrete}
 use native.Mathlib.Nat.{not-suc-le-zero, le-of-suc-le-suc}
 use native.Mathlib.Omega.{arith}
-use borrow.Author.Tests.{eqb-false, eq-eqb, ne-eqb, not-true}
+use borrow.Author.Tests.{eq-eqb, ne-eqb, not-true}
 use lib.Dec.{eqb}
 use lib.ListN.{length, getD, set, length-set, length-map}
 use lib.Seq.{getD-set-same, getD-set-other}
 use Rattle.basics.specs.Lists.{table, different}
-use Rattle.basics.proofs.Lists.{both-left, table-as, is-table, length-table, getD-table, different-get}
+use Rattle.basics.proofs.Lists.{both-left, table-as, is-table, length-table, getD-table}
 use Rattle.field.specs.Sum.{_⊕_}
 use Rattle.field.proofs.Sum.{⊕-self}
 use Rattle.field.specs.Field.{Arithmetic, Field}
@@ -29,9 +29,8 @@ use Rattle.elliptic.proofs.Function.{Zero, Lead.top, Lead.low, evaluate-lt}
 use Rattle.elliptic.proofs.Descent.{Through}
 use Rattle.elliptic.proofs.Zeros.{zeros}
 use Rattle.elliptic.proofs.Steps as steps
-use Rattle.elliptic.proofs.Steps.{after-same}
 use Rattle.codewords.specs.Code.{Code, arithmetic, points}
-use Rattle.codewords.specs.Codewords.{index, symbols, message, row, matrix, placesDiffer, usable, dependent, unitMessage}
+use Rattle.codewords.specs.Codewords.{index, symbols, message, row, matrix, usable, dependent, unitMessage}
 use Rattle.codewords.specs.Computed.{pointsOf as pointsAt, solution, solved, lastZero, lastIndex}
 use Rattle.codewords.proofs.Accepted.{Accepted, laws}
 use Rattle.codewords.proofs.Coordinates.{points-get}
@@ -40,14 +39,15 @@ use Rattle.codewords.proofs.Demand3.{unit-message}
 use Rattle.engine.specs.declared.pair.Sizes.{Sizes}
 use Rattle.engine.specs.Places.{pointOf, valueAt}
 use Rattle.engine.proofs.Runs.{point-at}
-use Rattle.values.specs.Values.{Shows, ShownIn, Coordinates, RunsFirst, pointsIn}
+use Rattle.values.specs.Values.{Shows, ShownIn, RunsFirst, pointsIn}
 use Rattle.solving.specs.Given.{Placed}
-use Rattle.solving.proofs.Link.{accepted, place-at, all-in, index-in, on-curve, code-coordinates, pts, points-same, no-symbols, small, sizes, zero-by, is-dependent, is-usable}
+use Rattle.solving.proofs.Link.{accepted, index-in, on-curve, pts, points-same, no-symbols, sizes, is-dependent, is-usable}
 use Rattle.solving.proofs.Interpolant.{shown-word}
+use Rattle.solving.proofs.Arranged.{places-in, apart, source, point-same, state-same, arranged-runs, arranged-zero}
 use Rattle.coder.specs.Outcomes.{joined}
 use Rattle.coder.proofs.Results.{the-row}
-use Rattle.arrangement.specs.Arranged.{freeAt, rank, Places, Apart, Arranged}
-use Rattle.arrangement.proofs.Arranged.{free-two, free-zero, free-one, rank-as, rank-all, rank-inside, rank-onto}
+use Rattle.arrangement.specs.Arranged.{freeAt, rank, Arranged}
+use Rattle.arrangement.proofs.Arranged.{free-two, free-zero, free-one, rank-as, rank-inside}
 use Rattle.generator.specs.Rows.{Able, Rows, RowsStep, raisedOf, unitSymbols, pairAfter, rowValue, entryAt, symbolAt}
 use Rattle.generator.proofs.Adding.{entry-is}
 use Rattle.generator.proofs.Words.{rows-next}
@@ -129,19 +129,12 @@ module _ {code : Code} {J : List ℕ} (p : Placed code J) where
   abbrev n : ℕ
   n = length (code .xs)
 
-  pub places-in : Places n J
-  places-in j l = let (a, b) = place-at n J (all-in p (code .xs) refl) j l in (a, omega arith)
-
-  pub apart : Apart J
-  unfolding placesDiffer
-  apart i j l h = eqb-false (getD J i 0) (getD J j 0) (different-get eqb J 0 i j (p .differ) l h)
-
   indices-apart : (i j : ℕ) → i < length J → j < length J → (i ≡ j → ⊥) → getD J i 0 - 1 ≡ getD J j 0 - 1 → ⊥
   indices-apart i j h g d e =
-      let same : getD J i 0 ≡ getD J j 0 = omega (arith, places-in i h, places-in j g) in
+      let same : getD J i 0 ≡ getD J j 0 = omega (arith, places-in p i h, places-in p j g) in
       elim (decLt i j) [
-        | yes l ↦ apart i j l g same
-        | no l ↦ apart j i (omega arith) h (sym same)
+        | yes l ↦ apart p i j l g same
+        | no l ↦ apart p j i (omega arith) h (sym same)
       ]
 
   -- of three chosen or free points over one coordinate two are the same
@@ -153,45 +146,24 @@ module _ {code : Code} {J : List ℕ} (p : Placed code J) where
       by (yes e) = e
       by (no d) = absurd (no-third (accepted p) t (getD J i 0 - 1) (getD J j 0 - 1) ht (index-in p i hi) (index-in p j hj) ei ej (λ z. di (sym z)) (λ z. dj (sym z)) (indices-apart i j hi hj (λ z. d (sym z))))
 
-  module _ (full : length J ≡ code .k) {px py : List ℕ} (ax : Arranged (code .xs) J (code .k) px) (ay : Arranged (code .ys) J (code .k) py) where
+  module _ (full : length J ≡ code .k) {px py : List ℕ} (ax : Arranged (code .xs) J (length J) px) (ay : Arranged (code .ys) J (length J) py) where
     abbrev A : Arithmetic
     A = arithmetic code
 
     abbrev m : ℕ
     m = code .field
 
-    second-size : length py ≡ length px
-    second-size = ay .size ∙ sym (accepted p .lengths) ∙ sym (ax .size)
-
-    -- a point stands for one of the code's
-    source : (s : ℕ) → s < length px → (t : ℕ) × (t < n) × (getD px s 0 ≡ getD (code .xs) t 0) × (getD py s 0 ≡ getD (code .ys) t 0)
-    source s h = by (decLt s (code .k))
-      where
-        by : Dec (s < code .k) → (t : ℕ) × (t < n) × (getD px s 0 ≡ getD (code .xs) t 0) × (getD py s 0 ≡ getD (code .ys) t 0)
-        by (yes l) = (getD J s 0 - 1, index-in p s (omega (arith, full)), ax .chosen s l, ay .chosen s l)
-        by (no l) =
-            let (t, k, f, r) = rank-onto J n (s - code .k) (omega (arith, rank-all n J places-in apart, full, ax .size)) in
-            let here : s ≡ code .k + rank (freeAt J) t = omega arith in
-            (t, k, ap (λ y. getD px y 0) here ∙ ax .rest t k f, ap (λ y. getD py y 0) here ∙ ay .rest t (omega (arith, accepted p .lengths)) f)
-
-    pub arranged-coordinates : Coordinates m px py
-    arranged-coordinates = record { as-many = second-size; below = λ i h. let (t, l, e, f) = source i h in rw f (code-coordinates p .below t l) }
-
-    point-same : (i : ℕ) → i < code .k → point (getD px i 0) (getD py i 0) ≡ pointOf (code .xs) (code .ys) (getD J i 0)
-    point-same i l = ap₂ point (ax .chosen i l) (ay .chosen i l)
-
     few : code .k ≤ length px
     few = omega (arith, accepted p .k-most, ax .size)
 
-    -- the functions of the first points are those of the places
-    state-same : (us : List ℕ) (i : ℕ) → i ≤ code .k → after A (pointsIn px py) us i ≡ after A (pts p) us i
-    state-same us i l =
-        after-same A (pointsIn px py) (pts p) us us i
-        (λ j b. getD-table (λ i. point (getD px i 0) (getD py i 0)) (length px) j (point 0 0) (omega (arith, few)) ∙ point-same j (omega arith) ∙ sym (point-at (code .xs) (code .ys) J j (omega (arith, full))))
-        (λ j b. refl)
+    chosen-first : (i : ℕ) → i < code .k → getD px i 0 ≡ getD (code .xs) (getD J i 0 - 1) 0
+    chosen-first i l = ax .chosen i (omega (arith, full))
 
-    pub arranged-runs : RunsFirst m px py (code .k)
-    arranged-runs = record { enough = few; small = λ i l. rw (state-same [] i (omega arith)) (small p [] (no-symbols code) i (omega arith) (omega (arith, full))) }
+    same-state : (us : List ℕ) (i : ℕ) → i ≤ code .k → after A (pointsIn px py) us i ≡ after A (pts p) us i
+    same-state us i l = state-same p ax ay us i (omega (arith, full))
+
+    pub arranged-first : RunsFirst m px py (code .k)
+    arranged-first = arranged-runs p ax ay [] (no-symbols code) (code .k) (omega arith) (omega (arith, full))
 
     unit-are : (j : ℕ) → symbols code (unitSymbols (code .k) j) ≡ true
     unfolding unitMessage message
@@ -200,13 +172,13 @@ module _ {code : Code} {J : List ℕ} (p : Placed code J) where
     pub able : Able m px py (code .k)
     able =
         record {
-          point-lt = λ t h. let (r, l, e, f) = source t h in rw e (first-lt (accepted p) r l);
-          low-lt = λ i t h l. rw (state-same [] i (omega arith)) (evaluate-lt (laws code (accepted p)) (sizes p [] (no-symbols code) i (omega (arith, full)) .low-under) _);
-          high-lt = λ i t h l. rw (state-same [] i (omega arith)) (evaluate-lt (laws code (accepted p)) (sizes p [] (no-symbols code) i (omega (arith, full)) .high-under) _);
-          word-lt = λ j i t h l. rw (state-same (unitSymbols (code .k) j) i h) (evaluate-lt (laws code (accepted p)) (sizes p (unitSymbols (code .k) j) (unit-are j) i (omega (arith, full)) .word-under) _);
+          point-lt = λ t h. let (r, l, e, f) = source p ax ay t h in rw e (first-lt (accepted p) r l);
+          low-lt = λ i t h l. rw (same-state [] i (omega arith)) (evaluate-lt (laws code (accepted p)) (sizes p [] (no-symbols code) i (omega (arith, full)) .low-under) _);
+          high-lt = λ i t h l. rw (same-state [] i (omega arith)) (evaluate-lt (laws code (accepted p)) (sizes p [] (no-symbols code) i (omega (arith, full)) .high-under) _);
+          word-lt = λ j i t h l. rw (same-state (unitSymbols (code .k) j) i h) (evaluate-lt (laws code (accepted p)) (sizes p (unitSymbols (code .k) j) (unit-are j) i (omega (arith, full)) .word-under) _);
           some = λ i h z y.
-              let at = point-at (code .xs) (code .ys) J i (omega (arith, full)) ∙ sym (point-same i h) in
-              let state = state-same [] i (omega arith) in
+              let at = point-at (code .xs) (code .ys) J i (omega (arith, full)) ∙ sym (point-same p ax ay i (omega (arith, full))) in
+              let state = same-state [] i (omega arith) in
               steps.one-nonzero (laws code (accepted p)) (on-curve p)
               (steps.after-holds (laws code (accepted p)) (on-curve p) (symbols-true code [] (no-symbols code)) i (omega (arith, full, length-map J (pointOf (code .xs) (code .ys)))))
               (omega (arith, full, length-map J (pointOf (code .xs) (code .ys))))
@@ -214,18 +186,13 @@ module _ {code : Code} {J : List ℕ} (p : Placed code J) where
           alone = λ i j r h g l e f.
               chosen-alone (getD J i 0 - 1) j r (index-in p i (omega (arith, full))) (omega (arith, full)) (omega (arith, full))
               (indices-apart j i (omega (arith, full)) (omega (arith, full)) (λ z. omega arith)) (indices-apart r i (omega (arith, full)) (omega (arith, full)) (λ z. omega arith))
-              (sym (ax .chosen j (omega arith)) ∙ e ∙ ax .chosen i h) (sym (ax .chosen r (omega arith)) ∙ f ∙ ax .chosen i h);
+              (sym (chosen-first j (omega arith)) ∙ e ∙ chosen-first i h) (sym (chosen-first r (omega arith)) ∙ f ∙ chosen-first i h);
         }
 
     -- L of all but the last point decides whether the places are dependent
     zero-decides : (l u : List ℕ) (z : Sizes) {r : Bool} → ShownIn m px py (code .k - 1) l u z (pairAfter m px py (code .k - 1)) → r ≡ eqb (getD (cond (z .turned) u l) (code .k - 1) 0) 0
         → usable code J ≡ not r
-    zero-decides l u z shown e =
-        let c = code .k - 1 in
-        let last : c < code .k = omega (arith, accepted p .k-least) in
-        is-usable p [] (no-symbols code) full
-        (zero-by p [] (no-symbols code) (omega (arith, full))
-        (shown .low-values .at c (omega arith) (omega (arith, few)) ∙ ap₂ (λ s P. evaluate A (s .low) P) (state-same [] c (omega arith)) (point-same c last)) e)
+    zero-decides l u z shown e = is-usable p [] (no-symbols code) full (arranged-zero p ax ay [] (no-symbols code) (omega (arith, full)) l u z shown e)
 
     -- ---- a usable choice
 
@@ -248,13 +215,13 @@ module _ {code : Code} {J : List ℕ} (p : Placed code J) where
       at-free : (j t : ℕ) → j < code .k → t < n → freeAt J t ≡ 1 → entryAt m px l u a b (code .k) j (code .k + rank (freeAt J) t) ≡ value j t
       at-free j t h g f =
           let s = code .k + rank (freeAt J) t in
-          let inside : s < length px = omega (arith, rank-inside n J places-in apart t g f, full, ax .size) in
-          let here : getD px s 0 ≡ getD (code .xs) t 0 = ax .rest t g f in
-          let free : (y : ℕ) → y < code .k → getD J y 0 - 1 ≡ t → ⊥ = λ y q e. free-one J t y f (omega (arith, full)) (omega (arith, places-in y (omega (arith, full)))) in
+          let inside : s < length px = omega (arith, rank-inside n J (places-in p) (apart p) t g f, full, ax .size) in
+          let here : getD px s 0 ≡ getD (code .xs) t 0 = rw full at (ax .rest t g f) in
+          let free : (y : ℕ) → y < code .k → getD J y 0 - 1 ≡ t → ⊥ = λ y q e. free-one J t y f (omega (arith, full)) (omega (arith, places-in p y (omega (arith, full)))) in
           entry-is (accepted p .field) px l u a b (code .k) s j (λ y. rowValue m px py (code .k) y (code .k)) (omega arith) inside (able .point-lt)
           (λ y q. able .word-lt y (code .k) s (omega arith) inside) (rows .row) (rows .whole (omega (arith, accepted p .k-least)) s (omega arith) inside)
-          (λ y z q r e d. chosen-alone t y z g (omega (arith, full)) (omega (arith, full)) (free y q) (free z r) (sym (ax .chosen y q) ∙ e ∙ here) (sym (ax .chosen z r) ∙ d ∙ here)) h
-          ∙ ap₂ (λ s P. evaluate A (s .word) P) (state-same (unitSymbols (code .k) j) (code .k) (omega arith)) (ap₂ point here (ay .rest t (omega (arith, accepted p .lengths)) f))
+          (λ y z q r e d. chosen-alone t y z g (omega (arith, full)) (omega (arith, full)) (free y q) (free z r) (sym (chosen-first y q) ∙ e ∙ here) (sym (chosen-first z r) ∙ d ∙ here)) h
+          ∙ ap₂ (λ s P. evaluate A (s .word) P) (same-state (unitSymbols (code .k) j) (code .k) (omega arith)) (ap₂ point here (rw full at (ay .rest t (omega (arith, accepted p .lengths)) f)))
 
       solution-is : (j : ℕ) → padded (code .k) (word j) ≡ solution code J (unitSymbols (code .k) j)
       unfolding usable

@@ -21,8 +21,8 @@ pub record Sized (n : ℕ) (px l u a b : List ℕ) : Type 0 where
 -- the rows of all chosen places but the last; py are the second coordinates, in the order of the first ones
 pub record Begun (code : Code) (J px l u a b : List ℕ) (z : Sizes) : Type 0 where
   pub py : List ℕ
-  pub firsts : Arranged (code .xs) J (code .k) px
-  pub seconds : Arranged (code .ys) J (code .k) py
+  pub firsts : Arranged (code .xs) J (length J) px
+  pub seconds : Arranged (code .ys) J (length J) py
   pub shown : ShownIn (code .field) px py (code .k - 1) l u z (pairAfter (code .field) px py (code .k - 1))
   pub rows : Rows (code .field) px py (code .k) l u a b (code .k - 1)
 

@@ -4,8 +4,9 @@ use crate::write::write_rows;
 use basics::Answer;
 use basics::MessageIndex;
 use basics::Refusal;
-use code::test::test_code;
+use code::test::test_code_with;
 use codewords::Parameters;
+use field::is_field;
 use field::logarithms;
 use field::powers;
 use generator::factors::rows_turn;
@@ -100,12 +101,15 @@ fn matrix_run(
 // Matrix of lists that have the right lengths.
 fn matrix_placed(
     p: Parameters,
+    powers: &[u8; 1021],
+    logs: &[u16; 512],
     xs: &[u8],
     ys: &[u8],
     places: &[u16],
     out: &mut [u8],
     work: &mut [u8],
 ) -> Answer
+    requires { ⌜ Tables (p .field) (now powers) (now logs) ⌝ }
     requires { ⌜ codeAnswer (codeOf p (now xs) (now ys)) ≡ Done ⌝ }
     requires { ⌜ (length (now places) ≡ p .k) × (length (now out) ≡ p .k * length (now xs)) × (room ≤ length (now work)) ⌝ }
     ensures { λ r. ⌜ Meets (matrixPlaced (codeOf p (now (xs .entry)) (now (ys .entry))) (now (places .entry)) (now (work .entry))) r
@@ -113,8 +117,7 @@ fn matrix_placed(
 {
     let tested = test_places(xs.len(), places);
     if let Answer::Done = tested {
-        let m = p.field;
-        return matrix_run(p, &powers(m), &logarithms(m), xs, ys, places, out, work);
+        return matrix_run(p, powers, logs, xs, ys, places, out, work);
     }
     tested
 }
@@ -122,12 +125,15 @@ fn matrix_placed(
 // Matrix of a code that passed the code test, so that k·n is small.
 fn matrix_tested(
     p: Parameters,
+    powers: &[u8; 1021],
+    logs: &[u16; 512],
     xs: &[u8],
     ys: &[u8],
     places: &[u16],
     out: &mut [u8],
     work: &mut [u8],
 ) -> Answer
+    requires { ⌜ Tables (p .field) (now powers) (now logs) ⌝ }
     requires { ⌜ codeAnswer (codeOf p (now xs) (now ys)) ≡ Done ⌝ }
     ensures { λ r. ⌜ Meets (matrixTested (codeOf p (now (xs .entry)) (now (ys .entry))) (now (places .entry)) (now (out .entry)) (now (work .entry))) r
         (now (out .entry), now (work .entry)) (now (out .exit), now (work .exit)) ⌝ }
@@ -141,7 +147,7 @@ fn matrix_tested(
     if work.len() < ROOM {
         return Answer::Refused(Refusal::Length);
     }
-    matrix_placed(p, xs, ys, places, out, work)
+    matrix_placed(p, powers, logs, xs, ys, places, out, work)
 }
 
 // The k rows of n symbols.
@@ -156,9 +162,15 @@ pub fn matrix(
     ensures { λ r. ⌜ Meets (matrixOutcome (codeOf code (now (xs .entry)) (now (ys .entry))) (now (places .entry)) (now (out .entry)) (now (work .entry))) r
         (now (out .entry), now (work .entry)) (now (out .exit), now (work .exit)) ⌝ }
 {
-    let tested = test_code(code, xs, ys);
+    let m = code.field;
+    if !is_field(m) {
+        return Answer::Refused(Refusal::FieldNumber);
+    }
+    let powers = powers(m);
+    let logs = logarithms(m);
+    let tested = test_code_with(code, &powers, &logs, xs, ys);
     if let Answer::Done = tested {
-        return matrix_tested(code, xs, ys, places, out, work);
+        return matrix_tested(code, &powers, &logs, xs, ys, places, out, work);
     }
     tested
 }

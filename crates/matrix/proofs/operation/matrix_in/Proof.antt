@@ -6,7 +6,8 @@ use native.Mathlib.Omega.{arith}
 use Rattle.basics.proofs.Outcomes.{pass, refuse, accept-pair}
 use Rattle.solving.proofs.Link.{accepted}
 use Rattle.values.proofs.Runs.{fits}
-use Rattle.matrix.proofs.Theory.{places-in, apart, arranged-runs, decides, completes}
+use Rattle.solving.proofs.Arranged.{places-in, apart}
+use Rattle.matrix.proofs.Theory.{arranged-first, decides, completes}
 use borrow.Author.Needs.{needs}
 use Rattle.matrix.proofs.operation.matrix_in.Statement.{statement}
 use Rattle.matrix.proofs.operation.matrix_in.Tie as tie
@@ -74,7 +75,7 @@ rows-turn-requires c κs =
     let size = b .firsts .size in (
       s .pre .0,
       (
-        fits (k .1 .1 .1 .1 .1 .1 .1 .0 ∙ pre .2 .lows ∙ sym size) (k .1 .1 .1 .1 .1 .1 .1 .1 .0 ∙ pre .2 .highs ∙ sym size) (arranged-runs (pre .0) (pre .1) (b .firsts) (b .seconds) .small (s .args .p .k - 1) (omega (arith, a .k-least))) (b .shown),
+        fits (k .1 .1 .1 .1 .1 .1 .1 .0 ∙ pre .2 .lows ∙ sym size) (k .1 .1 .1 .1 .1 .1 .1 .1 .0 ∙ pre .2 .highs ∙ sym size) (arranged-first (pre .0) (pre .1) (b .firsts) (b .seconds) .small (s .args .p .k - 1) (omega (arith, a .k-least))) (b .shown),
         record { points = omega (arith, size, a .k-least, a .k-most); firsts = omega (arith, k .1 .1 .1 .1 .1 .1 .1 .1 .1 .0, pre .2 .firsts, a .k-least, a .k-most); seconds = omega (arith, k .1 .1 .1 .1 .1 .1 .1 .1 .1 .1 .0, pre .2 .seconds, a .k-least, a .k-most) },
         omega (arith, size, a .n-most),
       ),

@@ -15,11 +15,11 @@ use Rattle.matrix.proofs.operation.matrix_placed.Tie as tie
 abbrev entry : tie.After-enum-told → tie.Start
 entry c = c .before .before .before .before .before .before .before .before
 
-abbrev after-enum-told : tie.After-matrix-run-arg4 → tie.After-enum-told
-after-enum-told c = c .before .before .before .before .before .before
+abbrev after-enum-told : tie.After-matrix-run-arg2 → tie.After-enum-told
+after-enum-told c = c .before .before
 
 test-places-requires : tie.Need-test-places-requires
-test-places-requires c κs = accepted-done _ (c .before .before .before .before .before .pre .0) .n-most
+test-places-requires c κs = accepted-done _ (c .before .before .before .before .before .pre .1 .0) .n-most
 
 enum-told : tie.Need-enum-told
 enum-told c = search needs
@@ -28,18 +28,10 @@ enum-told c = search needs
 passed : (c : tie.After-enum-told) → let a = entry c .args in placesAnswer (length (a .xs .now)) (a .places .now) ≡ Done
 passed c = sym (c .before .before .test-places .ensures) ∙ c .enum-told .given .1
 
-powers-requires : tie.Need-powers-requires
-powers-requires c κs = accepted-done _ (entry c .pre .0) .field
-
-logarithms-requires : tie.Need-logarithms-requires
-logarithms-requires c κs = accepted-done _ (entry (c .before .before) .pre .0) .field
-
 matrix-run-requires : tie.Need-matrix-run-requires
 matrix-run-requires c κs =
-    let pre = entry (after-enum-told c) .pre in (
-      record { field = accepted-done _ (pre .0) .field; is-powers = c .before .before .before .before .before .powers .ensures; is-logs = c .before .before .before .logarithms .ensures },
-      (are-placed _ _ (passed (after-enum-told c)) (pre .0), pre .1 .0, pre .1 .1, pre .1 .2),
-    )
+    let pre = entry (after-enum-told c) .pre in
+    (pre .0, (are-placed _ _ (passed (after-enum-told c)) (pre .1 .0), pre .1 .1 .0, pre .1 .1 .1, pre .1 .1 .2))
 
 same-length : tie.Need-same-length
 same-length c = search needs
@@ -59,8 +51,6 @@ matrix-placed-spec =
     (tie.spec
     test-places-requires
     enum-told
-    powers-requires
-    logarithms-requires
     matrix-run-requires
     same-length
     same-length-2

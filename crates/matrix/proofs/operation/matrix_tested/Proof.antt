@@ -23,7 +23,7 @@ returns c = refuse _ (ne-eqb _ _ (c .if1 .taken))
 mul-if2 : tie.Need-mul-if2
 mul-if2 c =
     let s = entry (c .before) in
-    let a = accepted-done _ (s .pre) in
+    let a = accepted-done _ (s .pre .1) in
     omega (arith, rows-small {k = s .args .p .k} {n = length (s .args .xs .now)} (omega (arith, a .k-most, a .n-most)) (a .n-most))
 
 returns-2 : tie.Need-returns-2

@@ -5,7 +5,8 @@ use lib.ListN.{length}
 use Rattle.basics.specs.Lists.{table}
 use Rattle.solving.proofs.Link.{accepted}
 use Rattle.arrangement.specs.Arranged.{freeAt}
-use Rattle.matrix.proofs.Theory.{places-in, apart, arranged-coordinates, arranged-runs, able}
+use Rattle.solving.proofs.Arranged.{places-in, apart, arranged-coordinates}
+use Rattle.matrix.proofs.Theory.{arranged-first, able}
 use borrow.Author.Needs.{needs}
 use Rattle.matrix.proofs.write.begin_rows.Statement.{statement}
 use Rattle.matrix.proofs.write.begin_rows.Tie as tie
@@ -44,18 +45,18 @@ run-rows-requires c κs =
     let s = entry (after-mark (after-arrange2 c .before) .before) in
     let pre = s .pre .1 in
     let a = accepted (pre .0) in
-    let ax = rw (pre .1) at (after-arrange2 c .before .before .before .before .before .arrange .ensures) in
-    let ay = rw (pre .1) at (after-arrange2 c .arrange2 .ensures) in (
+    let ax = after-arrange2 c .before .before .before .before .before .arrange .ensures in
+    let ay = after-arrange2 c .arrange2 .ensures in (
       s .pre .0,
       (
         (
-          arranged-coordinates (pre .0) (pre .1) ax ay,
+          arranged-coordinates (pre .0) ax ay,
           pre .2 .lows ∙ sym (ax .size),
           record { points = omega (arith, ax .size, a .k-most); firsts = omega (arith, after-mark (after-arrange2 c .before) .mark .kept .1 .0, pre .2 .firsts, a .k-most); seconds = omega (arith, pre .2 .seconds, a .k-most) },
           a .k-least,
           omega (arith, ax .size, a .n-most),
         ),
-        (arranged-runs (pre .0) (pre .1) ax ay, able (pre .0) (pre .1) ax ay),
+        (arranged-first (pre .0) (pre .1) ax ay, able (pre .0) (pre .1) ax ay),
       ),
     )
 
@@ -76,9 +77,8 @@ same-length-5 c = search needs
 
 returns : tie.Need-returns
 returns c =
-    let pre = entry (after-mark (after-arrange2 (after-run-rows c .before) .before) .before) .pre .1 in
     let r = after-run-rows c .run-rows .ensures in
-    record { py = _; firsts = rw (pre .1) at (after-arrange2 (after-run-rows c .before) .before .before .before .before .before .arrange .ensures); seconds = rw (pre .1) at (after-arrange2 (after-run-rows c .before) .arrange2 .ensures); shown = r .0; rows = r .1 }
+    record { py = _; firsts = after-arrange2 (after-run-rows c .before) .before .before .before .before .before .arrange .ensures; seconds = after-arrange2 (after-run-rows c .before) .arrange2 .ensures; shown = r .0; rows = r .1 }
 
 pub begin-rows-spec : {M : Type 1} → statement M
 begin-rows-spec =

@@ -4,7 +4,7 @@ use Prim.Native.Nat.{_+_, _*_, _-_, _≤_}
 use native.Mathlib.Omega.{arith}
 use lib.ListN.{length}
 use Rattle.generator.proofs.Turns.{slots-of}
-use Rattle.matrix.proofs.Joined.{row-fits, rows-small, lent-size, returned-size}
+use Rattle.matrix.proofs.Joined.{row-room, lent-size, returned-size}
 use Rattle.matrix.proofs.Marks.{Completing, completing-none, completing-turn}
 use Rattle.matrix.proofs.write.complete_rows.Statement.{statement}
 use Rattle.matrix.proofs.write.complete_rows.Tie as tie
@@ -25,16 +25,9 @@ entry c = start (c .before)
 abbrev in-loop : tie.After-slice-known2 Inv-loop μ-loop → tie.In-loop Inv-loop μ-loop
 in-loop c = c .before .before .before .before .before
 
--- where row i ends is within the buffer, which is small
-room : (c : tie.In-loop Inv-loop μ-loop) → let n = length (entry c .args .px .now) in (c .before .loop .i * n + n ≤ entry c .args .k * n) × (entry c .args .k * n ≤ 82944)
-room c =
-    let g = entry c .args in
-    let f = entry c .pre .0 in
-    (row-fits (g .k) (length (g .px .now)) (c .before .loop .i) (c .loop-test .taken), rows-small (omega (arith, f .points, f .most)) (f .most))
-
--- so that its part can be lent
-part : (c : tie.In-loop Inv-loop μ-loop) → c .before .loop .i * length (entry c .args .px .now) + length (entry c .args .px .now) ≤ length (c .before .loop .out)
-part c = omega (arith, room c, c .before .loop .inv .1, entry c .pre .3)
+-- row i has its part of the buffer, which is small
+room : (c : tie.In-loop Inv-loop μ-loop) → let n = length (entry c .args .px .now) in let out = c .before .loop .out in (c .before .loop .i * n + n ≤ length out) × (length out ≤ 82944)
+room c = let f = entry c .pre .0 in row-room (c .before .loop .out) (c .before .loop .inv .1 ∙ entry c .pre .3) (c .loop-test .taken) (f .points) (f .most)
 
 loop-holds : tie.Need-loop-holds Inv-loop μ-loop
 loop-holds c =
@@ -57,7 +50,7 @@ part-row-start : tie.Need-part-row-start Inv-loop μ-loop
 part-row-start c = omega arith
 
 part-row-end : tie.Need-part-row-end Inv-loop μ-loop
-part-row-end c = omega (arith, part (c .before))
+part-row-end c = omega (arith, room (c .before))
 
 complete-row-requires : tie.Need-complete-row-requires Inv-loop μ-loop
 complete-row-requires c κs =
@@ -67,7 +60,7 @@ complete-row-requires c κs =
     let n = length (entry turn .args .px .now) in
     let own = h .1 (at .i) (omega (arith, turn .loop-test .taken, h .2)) in
     let is = c .before .chosen-place .ensures in
-    (slots-of (h .0 .sum-size) (lent-size n (at .i) (at .out) (part turn)) (h .0), turn .loop-test .taken, omega (arith, is, own .0), omega (arith, is, own .1))
+    (slots-of (h .0 .sum-size) (lent-size n (at .i) (at .out) (room turn .0)) (h .0), turn .loop-test .taken, omega (arith, is, own .0), omega (arith, is, own .1))
 
 add-i : tie.Need-add-i Inv-loop μ-loop
 add-i c = let f = entry (in-loop c) .pre .0 in record { fits = omega (arith, in-loop c .loop-test .taken, f .points, f .most) }
@@ -82,10 +75,10 @@ loop-again c =
     let at = turn .before .loop in
     let n = length (a .px .now) in
     let r = c .before .before .complete-row in
-    let size : length (r .last .1 .1 .1 .1 .1 .1 .1 .0) ≡ n = r .kept .1 .1 .1 .1 .1 .1 .1 .0 ∙ lent-size n (at .i) (at .out) (part turn) in (
+    let size : length (r .last .1 .1 .1 .1 .1 .1 .1 .0) ≡ n = r .kept .1 .1 .1 .1 .1 .1 .1 .0 ∙ lent-size n (at .i) (at .out) (room turn .0) in (
       omega (arith, turn .loop-test .taken),
-      returned-size n (at .i) (at .out) (part turn) (r .last .1 .1 .1 .1 .1 .1 .1 .0) size ∙ at .inv .1,
-      completing-turn (a .k) (a .places .now) (a .px .now) (a .a .now) (a .b .now) (a .sums .now) (a .out .now) (at .out) (r .last .1 .1 .1 .1 .1 .1 .1 .0) (part turn) size (turn .loop-test .taken)
+      returned-size n (at .i) (at .out) (room turn .0) (r .last .1 .1 .1 .1 .1 .1 .1 .0) size ∙ at .inv .1,
+      completing-turn (a .k) (a .places .now) (a .px .now) (a .a .now) (a .b .now) (a .sums .now) (a .out .now) (at .out) (r .last .1 .1 .1 .1 .1 .1 .1 .0) (room turn .0) size (turn .loop-test .taken)
           (c .before .before .before .before .chosen-place .ensures) (r .ensures) (at .inv .2),
     )
 

@@ -5,7 +5,7 @@ use native.Mathlib.Omega.{arith}
 use lib.ListN.{length}
 use Rattle.generator.proofs.Turns.{slots-of}
 use Rattle.matrix.specs.Given.{Parts}
-use Rattle.matrix.proofs.Joined.{row-fits, rows-small, lent-size, returned-size}
+use Rattle.matrix.proofs.Joined.{row-room, lent-size, returned-size}
 use Rattle.matrix.proofs.Marks.{parts-none, parts-turn}
 use Rattle.matrix.proofs.write.part_rows.Statement.{statement}
 use Rattle.matrix.proofs.write.part_rows.Tie as tie
@@ -26,16 +26,9 @@ entry c = start (c .before)
 abbrev in-loop : tie.After-slice-known4 Inv-loop μ-loop → tie.In-loop Inv-loop μ-loop
 in-loop c = c .before .before .before .before .before .before .before
 
--- where row i ends is within the buffer, which is small
-room : (c : tie.In-loop Inv-loop μ-loop) → let n = length (entry c .args .px .now) in (c .before .loop .i * n + n ≤ entry c .args .k * n) × (entry c .args .k * n ≤ 82944)
-room c =
-    let g = entry c .args in
-    let f = entry c .pre .1 .0 in
-    (row-fits (g .k) (length (g .px .now)) (c .before .loop .i) (c .loop-test .taken), rows-small (omega (arith, f .points, f .most)) (f .most))
-
--- so that its part can be lent
-part : (c : tie.In-loop Inv-loop μ-loop) → c .before .loop .i * length (entry c .args .px .now) + length (entry c .args .px .now) ≤ length (c .before .loop .out)
-part c = omega (arith, room c, c .before .loop .inv .2, entry c .pre .1 .3)
+-- row i has its part of the buffer, which is small
+room : (c : tie.In-loop Inv-loop μ-loop) → let n = length (entry c .args .px .now) in let out = c .before .loop .out in (c .before .loop .i * n + n ≤ length out) × (length out ≤ 82944)
+room c = let f = entry c .pre .1 .0 in row-room (c .before .loop .out) (c .before .loop .inv .2 ∙ entry c .pre .1 .3) (c .loop-test .taken) (f .points) (f .most)
 
 loop-holds : tie.Need-loop-holds Inv-loop μ-loop
 loop-holds c =
@@ -56,7 +49,7 @@ part-row-start : tie.Need-part-row-start Inv-loop μ-loop
 part-row-start c = omega arith
 
 part-row-end : tie.Need-part-row-end Inv-loop μ-loop
-part-row-end c = omega (arith, part c)
+part-row-end c = omega (arith, room c)
 
 fill-row-requires : tie.Need-fill-row-requires Inv-loop μ-loop
 fill-row-requires c κs =
@@ -64,7 +57,7 @@ fill-row-requires c κs =
     let h = entry turn .pre in
     let at = turn .before .loop in
     let n = length (entry turn .args .px .now) in
-    (h .0, (slots-of (at .inv .1 ∙ h .1 .0 .sum-size) (lent-size n (at .i) (at .out) (part turn)) (h .1 .0), h .1 .1, h .1 .2, turn .loop-test .taken))
+    (h .0, (slots-of (at .inv .1 ∙ h .1 .0 .sum-size) (lent-size n (at .i) (at .out) (room turn .0)) (h .1 .0), h .1 .1, h .1 .2, turn .loop-test .taken))
 
 add-i : tie.Need-add-i Inv-loop μ-loop
 add-i c = let f = entry (in-loop c) .pre .1 .0 in record { fits = omega (arith, in-loop c .loop-test .taken, f .points, f .most) }
@@ -79,11 +72,11 @@ loop-again c =
     let at = turn .before .loop in
     let n = length (a .px .now) in
     let r = c .before .before .before .before .fill-row in
-    let size : length (r .last .1 .1 .1 .1 .1 .1 .1 .1 .1 .1 .1 .0) ≡ n = r .kept .1 .1 .1 .1 .1 .1 .1 .1 .1 .1 .1 .0 ∙ lent-size n (at .i) (at .out) (part turn) in (
+    let size : length (r .last .1 .1 .1 .1 .1 .1 .1 .1 .1 .1 .1 .0) ≡ n = r .kept .1 .1 .1 .1 .1 .1 .1 .1 .1 .1 .1 .0 ∙ lent-size n (at .i) (at .out) (room turn .0) in (
       omega (arith, turn .loop-test .taken),
       r .kept .1 .1 .1 .1 .1 .1 .1 .1 .1 .1 .0 ∙ at .inv .1,
-      returned-size n (at .i) (at .out) (part turn) (r .last .1 .1 .1 .1 .1 .1 .1 .1 .1 .1 .1 .0) size ∙ at .inv .2,
-      parts-turn (a .m) (a .k) (a .px .now) (a .l .now) (a .u .now) (a .a .now) (a .b .now) (part turn) size (at .inv .3) (r .ensures),
+      returned-size n (at .i) (at .out) (room turn .0) (r .last .1 .1 .1 .1 .1 .1 .1 .1 .1 .1 .1 .0) size ∙ at .inv .2,
+      parts-turn (a .m) (a .k) (a .px .now) (a .l .now) (a .u .now) (a .a .now) (a .b .now) (room turn .0) size (at .inv .3) (r .ensures),
     )
 
 same-length : tie.Need-same-length Inv-loop μ-loop
