@@ -73,7 +73,7 @@ pub fn turns(z: Sizes, at: u8, w: Factors) -> bool
     z.turned
 }
 
-// h gets (X + α)·h + s·d and g gets (X + β)·d, where d is g + t·h.
+// h gets (X + α)·h + s·d and g gets (X + β)·d, where d is g + t·h. Both are found before one is stored, so that nothing is read again.
 pub fn sweep_twice(
     m: u8,
     powers: &[u8; 1021],
@@ -96,11 +96,14 @@ pub fn sweep_twice(
     let by_s = logarithm(m, logs, s);
     let mut i = from;
     while i < xs.len() {
+        let x = xs[i];
         let c = h[i];
         let d = g[i] ^ product_by_log(m, powers, logs, by_t, c);
         let gain = product_by_log(m, powers, logs, by_s, d);
-        h[i] = product(m, powers, logs, xs[i] ^ alpha, c) ^ gain;
-        g[i] = product(m, powers, logs, xs[i] ^ beta, d);
+        let high = product(m, powers, logs, x ^ alpha, c) ^ gain;
+        let low = product(m, powers, logs, x ^ beta, d);
+        h[i] = high;
+        g[i] = low;
         i += 1;
     }
 }

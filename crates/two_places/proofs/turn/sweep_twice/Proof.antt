@@ -29,10 +29,10 @@ abbrev first-factor : tie.At-loop Inv-loop μ-loop → tie.After-logarithm Inv-l
 first-factor c = c .before .before
 
 abbrev at-loop : tie.After-product-by-log Inv-loop μ-loop → tie.At-loop Inv-loop μ-loop
-at-loop c = c .before .before .before .before
+at-loop c = c .before .before .before .before .before
 
 abbrev first-gain : tie.After-product2 Inv-loop μ-loop → tie.After-product-by-log Inv-loop μ-loop
-first-gain c = c .before .before .before .before .before
+first-gain c = c .before .before .before
 
 logarithm-requires : tie.Need-logarithm-requires Inv-loop μ-loop
 logarithm-requires c κs = search needs
@@ -43,6 +43,9 @@ logarithm-requires-2 c κs = search needs
 loop-holds : tie.Need-loop-holds Inv-loop μ-loop
 loop-holds c = (sweeping-none _ _ _, sweeping-none _ _ _)
 
+shared-slice-read-x : tie.Need-shared-slice-read-x Inv-loop μ-loop
+shared-slice-read-x c = search needs
+
 slice-read-c : tie.Need-slice-read-c Inv-loop μ-loop
 slice-read-c c = search needs
 
@@ -50,7 +53,7 @@ slice-read-d : tie.Need-slice-read-d Inv-loop μ-loop
 slice-read-d c = search needs
 
 product-by-log-requires : tie.Need-product-by-log-requires Inv-loop μ-loop
-product-by-log-requires c κs = let at = c .before .before .before in
+product-by-log-requires c κs = let at = c .before .before .before .before in
     let s = entry at in
     (s .pre .0, logged (s .pre .0 .field) (s .fits .t .fits) (first-factor at .logarithm .ensures))
 
@@ -59,26 +62,20 @@ product-by-log-requires-2 c κs = let at = at-loop c in
     let s = entry at in
     (s .pre .0, logged (s .pre .0 .field) (s .fits .s .fits) (at .before .logarithm2 .ensures))
 
-shared-slice-read-product : tie.Need-shared-slice-read-product Inv-loop μ-loop
-shared-slice-read-product c = search needs
-
 product-requires : tie.Need-product-requires Inv-loop μ-loop
 product-requires c κs = search needs
 
-slice-write-h : tie.Need-slice-write-h Inv-loop μ-loop
-slice-write-h c = search needs
-
-shared-slice-read-product-2 : tie.Need-shared-slice-read-product-2 Inv-loop μ-loop
-shared-slice-read-product-2 c = search needs
-
 product-requires-2 : tie.Need-product-requires-2 Inv-loop μ-loop
 product-requires-2 c κs = search needs
+
+slice-write-h : tie.Need-slice-write-h Inv-loop μ-loop
+slice-write-h c = search needs
 
 slice-write-g : tie.Need-slice-write-g Inv-loop μ-loop
 slice-write-g c = search needs
 
 add-i : tie.Need-add-i Inv-loop μ-loop
-add-i c = let at = at-loop (first-gain c) in record { fits = omega (arith, first-gain c .before .before .before .loop-test .taken, entry at .pre .1 .2) }
+add-i c = let at = at-loop (first-gain c) in record { fits = omega (arith, first-gain c .before .before .before .before .loop-test .taken, entry at .pre .1 .2) }
 
 loop-less : tie.Need-loop-less Inv-loop μ-loop
 loop-less c = search needs
@@ -89,13 +86,13 @@ loop-again c =
     let at = at-loop (first-gain c) in
     let s = entry at in
     let field = s .pre .0 .field in
-    let inside = first-gain c .before .before .before .loop-test .taken in
+    let inside = first-gain c .before .before .before .before .loop-test .taken in
     let h = at .loop .inv .0 in
     let g = at .loop .inv .1 in
     let first = by-logged field (s .fits .t .fits) (first-factor at .logarithm .ensures) _ (first-gain c .product-by-log .ensures) in
     let between = gained-by (s .args .m) (s .args .t) (s .args .h .now) g (h .rest (at .loop .i) (omega arith)) first in
-    let second = by-logged field (s .fits .s .fits) (at .before .logarithm2 .ensures) _ (c .before .before .before .before .product-by-log2 .ensures) in
-    let raised = raised-by (s .args .m) h (s .args .xs .now) (s .args .alpha) (c .before .before .product .ensures) in (
+    let second = by-logged field (s .fits .s .fits) (at .before .logarithm2 .ensures) _ (c .before .before .product-by-log2 .ensures) in
+    let raised = raised-by (s .args .m) h (s .args .xs .now) (s .args .alpha) (c .before .product .ensures) in (
       sweeping-turn _ _ _ (at .loop .i) (omega (arith, s .pre .1 .0, inside)) h (ap₂ bitXor raised (second ∙ ap (product (s .args .m) (s .args .s)) between)),
       sweeping-turn _ _ _ (at .loop .i) (omega (arith, s .pre .1 .1, inside)) g (c .product2 .ensures ∙ ap (product (s .args .m) _) between),
     )
@@ -120,15 +117,14 @@ sweep-twice-spec =
     logarithm-requires
     logarithm-requires-2
     loop-holds
+    shared-slice-read-x
     slice-read-c
     slice-read-d
     product-by-log-requires
     product-by-log-requires-2
-    shared-slice-read-product
     product-requires
-    slice-write-h
-    shared-slice-read-product-2
     product-requires-2
+    slice-write-h
     slice-write-g
     add-i
     loop-less
