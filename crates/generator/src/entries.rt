@@ -4,7 +4,6 @@ use crate::indices::index_in;
 use basics::MessageIndex;
 use basics::Place;
 use engine::places::index_of;
-use engine::slices::clear;
 use field::add;
 use field::logarithm;
 use field::product_by_log;
@@ -72,7 +71,7 @@ fn fill_parts(
     }
 }
 
-// The row of a message index, but for its own place and a point over its own coordinate: there it has 0.
+// The row of a message index, which is clear, but for its own place and a point over its own coordinate: there it stays 0.
 pub fn fill_row(
     m: u8,
     powers: &[u8; 1021],
@@ -88,10 +87,10 @@ pub fn fill_row(
     row: &mut [u8],
 )
     requires { ⌜ Tables m (now powers) (now logs) ⌝ }
-    requires { ⌜ Slots count (now xs) (now a) (now b) (now sums) (now row) × (length (now l) ≡ length (now xs)) × (length (now u) ≡ length (now xs)) × (index .0 < count) ⌝ }
+    requires { ⌜ Slots count (now xs) (now a) (now b) (now sums) (now row) × (length (now l) ≡ length (now xs)) × (length (now u) ≡ length (now xs)) × (index .0 < count)
+        × (now row ≡ replicate (length (now xs)) 0) ⌝ }
     ensures { λ _. ⌜ Filled m (index .0) count (now (xs .entry)) (now (l .entry)) (now (u .entry)) (now (a .entry)) (now (b .entry)) (now (sums .entry)) (now (sums .exit)) (now (row .exit)) ⌝ }
 {
-    clear(row);
     let j = index.0;
     let la = factor(m, logs, a[j]);
     let lb = factor(m, logs, b[j]);

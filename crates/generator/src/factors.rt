@@ -17,7 +17,13 @@ ghost use Rattle.field.specs.Tables.{Tables};
 ghost use Rattle.values.specs.Values.{Sweeping, Steps, Fits};
 ghost use Rattle.generator.specs.Rows.{total, multipleAt, Over, RowLists, RowsRaised, RowsEither, RowsStep, raisedOf};
 
-// The multiples of the raised function that the first rows have at a point, each in place of its factor, and their sum.
+// The sum of the multiples that rows have at a point, and the index of a row whose coordinate is the point's, or the number of the rows.
+struct Multiples {
+    sum: u8,
+    over: usize,
+}
+
+// The multiples of the raised function that the first rows have at a point, each in place of its factor.
 fn take_multiples(
     m: u8,
     powers: &[u8; 1021],
@@ -28,39 +34,28 @@ fn take_multiples(
     xs: &[u8],
     a: &mut [u8],
     b: &[u8],
-) -> u8
+) -> Multiples
     requires { ⌜ Tables m (now powers) (now logs) ⌝ }
     requires { ⌜ RowLists (now xs) (now a) (now b) count × (length (now xs) ≤ 288) ⌝ }
     ensures { λ r. ⌜ Sweeping (multipleAt m alpha t (now (xs .entry)) (now (a .entry)) (now (b .entry))) 0 count (now (a .entry)) (now (a .exit))
-        × (r ≡ total (multipleAt m alpha t (now (xs .entry)) (now (a .entry)) (now (b .entry))) count) ⌝ }
+        × (r .sum ≡ total (multipleAt m alpha t (now (xs .entry)) (now (a .entry)) (now (b .entry))) count) × Over (now (xs .entry)) count alpha (r .over) ⌝ }
 {
     let by_t = logarithm(m, logs, t);
     let mut sum = 0u8;
+    let mut over = count;
     let mut j = 0;
     while j < count {
+        let x = xs[j];
         let top = a[j] ^ product_by_log(m, powers, logs, by_t, b[j]);
-        let e = quotient(m, powers, logs, top, alpha ^ xs[j]);
+        let e = quotient(m, powers, logs, top, alpha ^ x);
         a[j] = e;
         sum = sum ^ e;
-        j += 1;
-    }
-    sum
-}
-
-// The index of one of the first rows whose coordinate is alpha, or their number.
-fn find_over(xs: &[u8], count: usize, alpha: u8) -> usize
-    requires { ⌜ (count ≤ length (now xs)) × (length (now xs) ≤ 288) ⌝ }
-    ensures { λ r. ⌜ Over (now (xs .entry)) count alpha r ⌝ }
-{
-    let mut o = count;
-    let mut j = 0;
-    while j < count {
-        if xs[j] == alpha {
-            o = j;
+        if x == alpha {
+            over = j;
         }
         j += 1;
     }
-    o
+    Multiples { sum: sum, over: over }
 }
 
 // The rows so far with one more point, and its own row, where the function that is raised is rc and the other t·rc.
@@ -82,8 +77,9 @@ pub fn raise_rows(
     let i = index.0;
     let alpha = xs[i];
     let own = inverse(m, powers, logs, rc);
-    let sum = take_multiples(m, powers, logs, alpha, t, i, xs, a, b);
-    let o = find_over(xs, i, alpha);
+    let others = take_multiples(m, powers, logs, alpha, t, i, xs, a, b);
+    let sum = others.sum;
+    let o = others.over;
     a[o] = own ^ sum;
     a[i] = own;
     b[i] = 0;

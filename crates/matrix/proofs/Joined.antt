@@ -7,8 +7,8 @@ use native.Mathlib.Nat.{mul-le-mul, mul-le-mul-right, suc-mul, zero-mul}
 use native.Mathlib.Numerals.{add-one}
 use native.Mathlib.Omega.{arith}
 use borrow.Rule.Slice.PartMut.{putMid, same-len-mid, take-put, drop-put}
-use lib.ListN.{length, take, drop, length-drop, take-append-drop}
-use lib.Seq.{take-all, take-at, drop-at, take-add, drop-drop, take-append-le, drop-append-le, length-take-le}
+use lib.ListN.{length, take, drop, replicate, length-drop, take-append-drop, length-replicate, getD-replicate}
+use lib.Seq.{take-all, take-at, drop-at, take-add, drop-drop, take-append-le, drop-append-le, length-take-le, getD-take, getD-drop, ext-getD}
 use Rattle.basics.specs.Lists.{table}
 use Rattle.basics.proofs.Lists.{part-length}
 use Rattle.coder.specs.Outcomes.{joined}
@@ -36,6 +36,14 @@ part-early n a c l h g =
     let rest : length (drop a (take c l)) ≡ c - a = length-drop a (take c l) ∙ ap (λ y. y - a) front in
     ap (λ y. take n (drop a y)) (sym (take-append-drop c l)) ∙ ap (take n) (drop-append-le a (take c l) (drop c l) (omega (arith, front)))
     ∙ take-append-le n (drop a (take c l)) (drop c l) (omega (arith, rest))
+
+-- a part of a clear buffer
+pub part-clear : (k n i : ℕ) → i < k → part n i (replicate (k * n) 0) ≡ replicate n 0
+part-clear k n i h =
+    let long : length (part n i (replicate (k * n) 0)) ≡ n = part-length (replicate (k * n) 0) (i * n) n (omega (arith, row-fits k n i h, length-replicate {A = ℕ} (k * n) 0)) in
+    ext-getD 0 (part n i (replicate (k * n) 0)) (replicate n 0) (long ∙ sym (length-replicate {A = ℕ} n 0))
+    (λ t l. getD-take n (drop (i * n) (replicate (k * n) 0)) t 0 (omega (arith, long)) ∙ getD-drop (i * n) (replicate (k * n) 0) t 0
+    ∙ getD-replicate (k * n) (i * n + t) 0 0 (omega (arith, long, row-fits k n i h)) ∙ sym (getD-replicate n t 0 0 (omega (arith, long))))
 
 -- the buffer when z is back
 abbrev pub returned : ℕ → ℕ → List ℕ → List ℕ → List ℕ

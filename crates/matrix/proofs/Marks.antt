@@ -9,7 +9,7 @@ use native.Mathlib.Numerals.{add-one}
 use native.Mathlib.Omega.{arith}
 use borrow.Author.Tests.{eq-eqb, ne-eqb}
 use lib.Dec.{eqb}
-use lib.ListN.{length, getD, set, take, drop, take-append-drop}
+use lib.ListN.{length, getD, set, take, drop, replicate, take-append-drop}
 use lib.Seq.{length-take-le}
 use Rattle.basics.specs.Lists.{table}
 use Rattle.basics.proofs.Lists.{length-table, getD-table, table-as}
@@ -22,7 +22,7 @@ use Rattle.arrangement.proofs.Arranged.{free-two, rank-as, rank-all}
 use Rattle.generator.specs.Rows.{quotientAt, partAt, leftAt, entryAt, symbolAt, Marked, Indexed, Filled, Completed}
 use Rattle.generator.proofs.Sums.{total-as}
 use Rattle.matrix.specs.Given.{frees, rowAt, part, Parts}
-use Rattle.matrix.proofs.Joined.{returned, lent-part, part-same, part-other}
+use Rattle.matrix.proofs.Joined.{returned, lent-part, part-same, part-other, part-clear}
 
 -- two lists that begin with as many elements, and then go on alike
 drop-same : (a b r : List ℕ) (k : ℕ) → length a ≡ length b → length a ≤ k → drop k (a ++ r) ≡ drop k (b ++ r)
@@ -82,9 +82,9 @@ row-complete m k J px l u a b {i = i} x p h c =
 -- ---- the loop that writes the parts
 
 module _ (m k : ℕ) (px l u a b : List ℕ) where
-  pub parts-none : {sums out : List ℕ} → sums ≡ table one (length px) → Parts m k px l u a b sums out 0
-  parts-none e =
-      record { rows = λ free x j h. absurd (omega arith); left = λ s low more. ap (λ y. getD y s 0) e ∙ getD-table one (length px) s 0 more ∙ sym (⊕-zero 1) }
+  pub parts-none : {sums out : List ℕ} → sums ≡ table one (length px) → out ≡ replicate (k * length px) 0 → Parts m k px l u a b sums out 0
+  parts-none e f =
+      record { rows = λ free x j h. absurd (omega arith); left = λ s low more. ap (λ y. getD y s 0) e ∙ getD-table one (length px) s 0 more ∙ sym (⊕-zero 1); rest = λ j h g. ap (part (length px) j) f ∙ part-clear k (length px) j g }
 
   -- z is row i, which comes back, and the sums with it
   pub parts-turn : {sums sums′ out z : List ℕ} {i : ℕ} (fits : i * length px + length px ≤ length out) (size : length z ≡ length px) → Parts m k px l u a b sums out i
@@ -96,6 +96,7 @@ module _ (m k : ℕ) (px l u a b : List ℕ) where
               ∙ ap (λ y. table (symbolAt k free (partAt m px l u a b y)) (length px)) (sym e)
           | no d ↦ part-other (length px) i out fits z size j d ∙ p .rows free x j (omega arith)
         ];
+        rest = λ j h g. part-other (length px) i out fits z size j (λ d. omega arith) ∙ p .rest j (omega arith) g;
         left = λ s low more. f .added .done s low more ∙ ap (λ y. y ⊕ partAt m px l u a b i s) (p .left s low more) ∙ ⊕-assoc 1 _ _ ∙ ap (λ y. leftAt m px l u a b y s) (sym (add-one i));
       }
 

@@ -2,7 +2,7 @@
 use Prim.Native.Nat.{ℕ, _*_, _-_, _<_, _≤_}
 use mathlib.Core.Path.{_≡_}
 use mathlib.Core.List.{List}
-use lib.ListN.{length, getD, set, take, drop}
+use lib.ListN.{length, getD, set, take, drop, replicate}
 use Rattle.basics.specs.Lists.{table}
 use Rattle.codewords.specs.Code.{Code}
 use Rattle.engine.specs.declared.pair.Sizes.{Sizes}
@@ -51,10 +51,11 @@ rowAt m k J px l u a b j = set (table (symbolAt k (frees J px) (entryAt m px l u
 abbrev pub part : ℕ → ℕ → List ℕ → List ℕ
 part n i out = take n (drop (i * n) out)
 
--- the first i rows have their parts in the buffer, and the sums are what these leave of 1
+-- the first i rows have their parts in the buffer, and the sums are what these leave of 1; the other rows are clear
 pub record Parts (m k : ℕ) (px l u a b sums out : List ℕ) (i : ℕ) : Type 0 where
   pub rows : (free : List ℕ) → Indexed k (length px) free a b → (j : ℕ) → j < i → part (length px) j out ≡ table (symbolAt k free (partAt m px l u a b j)) (length px)
   pub left : (s : ℕ) → k ≤ s → s < length px → getD sums s 0 ≡ leftAt m px l u a b i s
+  pub rest : (j : ℕ) → i ≤ j → j < k → part (length px) j out ≡ replicate (length px) 0
 
 -- each of the k rows has been completed
 abbrev pub AllCompleted : ℕ → List ℕ → List ℕ → List ℕ → List ℕ → List ℕ → List ℕ → List ℕ → Type 0

@@ -7,6 +7,7 @@ use basics::MessageIndex;
 use codewords::Parameters;
 use engine::pair::Sizes;
 use engine::places::chosen_place;
+use engine::slices::clear;
 use generator::entries::complete_row;
 use generator::entries::fill_row;
 use generator::indices::index_free;
@@ -14,7 +15,7 @@ use generator::run::run_rows;
 use solving::work::clear_room;
 ghost use mathlib.Core.Path.{_≡_};
 ghost use Prim.Native.Nat.{_*_, _≤_};
-ghost use lib.ListN.{length};
+ghost use lib.ListN.{length, replicate};
 ghost use Rattle.basics.specs.Lists.{table};
 ghost use Rattle.field.specs.Tables.{Tables};
 ghost use Rattle.codewords.specs.Code.{codeOf};
@@ -60,7 +61,7 @@ fn index_rest(k: usize, places: &[u16], a: &mut [u8], b: &mut [u8], marks: &mut 
     index_free(k, marks, a, b);
 }
 
-// What the factors of all rows give, and the sums, which begin as 1.
+// What the factors of all rows give, in a clear buffer, and the sums, which begin as 1.
 fn part_rows(
     m: u8,
     powers: &[u8; 1021],
@@ -76,7 +77,7 @@ fn part_rows(
 )
     requires { ⌜ Tables m (now powers) (now logs) ⌝ }
     requires { ⌜ Slots k (now px) (now a) (now b) (now sums) (now px) × (length (now l) ≡ length (now px)) × (length (now u) ≡ length (now px))
-        × (length (now out) ≡ k * length (now px)) × (now sums ≡ table one (length (now px))) ⌝ }
+        × (length (now out) ≡ k * length (now px)) × (now sums ≡ table one (length (now px))) × (now out ≡ replicate (k * length (now px)) 0) ⌝ }
     ensures { λ _. ⌜ Parts m k (now (px .entry)) (now (l .entry)) (now (u .entry)) (now (a .entry)) (now (b .entry)) (now (sums .exit)) (now (out .exit)) k ⌝ }
 {
     let n = px.len();
@@ -138,6 +139,7 @@ fn fill_rows(
 {
     index_rest(k, places, a, b, sums);
     fill_ones(sums);
+    clear(out);
     part_rows(m, powers, logs, k, px, l, u, a, b, sums, out);
     complete_rows(k, places, px, a, b, sums, out);
 }

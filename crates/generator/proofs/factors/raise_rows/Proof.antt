@@ -19,14 +19,11 @@ inverse-requires c κs = search needs
 take-multiples-requires : tie.Need-take-multiples-requires
 take-multiples-requires c κs = let s = c .before .before .before .before .before .before .before in (s .pre .0, (fewer-rows (s .pre .1 .0), s .pre .1 .1))
 
-find-over-requires : tie.Need-find-over-requires
-find-over-requires c κs = let s = entry c in (omega (arith, s .pre .1 .0 .points), s .pre .1 .1)
-
 slice-write-a : tie.Need-slice-write-a
-slice-write-a c = let g = entry (c .before) .pre .1 .0 in omega (arith, g .firsts, c .find-over .ensures .most, c .before .before .before .take-multiples .ensures .0 .size)
+slice-write-a c = let t = c .before .before .take-multiples .ensures in omega (arith, entry c .pre .1 .0 .firsts, t .2 .most, t .0 .size)
 
 slice-write-a-2 : tie.Need-slice-write-a-2
-slice-write-a-2 c = let g = entry (c .before) .pre .1 .0 in simp length-set (omega (arith, g .firsts, c .before .before .before .take-multiples .ensures .0 .size))
+slice-write-a-2 c = simp length-set (omega (arith, entry c .pre .1 .0 .firsts, c .before .before .take-multiples .ensures .0 .size))
 
 slice-write-b : tie.Need-slice-write-b
 slice-write-b c = search needs
@@ -39,10 +36,10 @@ same-length-2 c = search needs
 
 returns : tie.Need-returns
 returns c =
-    let s = entry (c .before) in
+    let s = entry c in
     let a = s .args in
-    let t = c .before .before .before .take-multiples .ensures in
-    rows-raised (a .m) (a .index .0) (a .rc) (a .t) (a .xs .now) (a .a .now) (a .b .now) (s .pre .1 .0) (c .before .before .before .before .before .before .inverse .ensures) (t .0) (t .1) (c .find-over .ensures)
+    let t = c .before .before .take-multiples .ensures in
+    rows-raised (a .m) (a .index .0) (a .rc) (a .t) (a .xs .now) (a .a .now) (a .b .now) (s .pre .1 .0) (c .before .before .before .before .before .inverse .ensures) (t .0) (t .1) (t .2)
 
 pub raise-rows-spec : {M : Type 1} → statement M
 raise-rows-spec =
@@ -51,7 +48,6 @@ raise-rows-spec =
     shared-slice-read-alpha
     inverse-requires
     take-multiples-requires
-    find-over-requires
     slice-write-a
     slice-write-a-2
     slice-write-b

@@ -1,6 +1,6 @@
 -- The indices stand behind the factors, then the parts are written and added, and then the rows completed.
 use mathlib.Core.Path.{_≡_, refl, sym, _∙_, ap}
-use lib.ListN.{length}
+use lib.ListN.{length, replicate}
 use Rattle.basics.specs.Lists.{table}
 use Rattle.coder.specs.Outcomes.{joined}
 use Rattle.values.specs.Values.{one}
@@ -18,10 +18,13 @@ abbrev start : tie.After-index-rest-arg3 → tie.Start
 start c = c .before .before .before .before .before .before .before .before .before .before .before
 
 abbrev after-index-rest : tie.After-part-rows-arg4 → tie.After-index-rest
-after-index-rest c = c .before .before .before .before .before .before .before .before .before .before .before .before .before .before
+after-index-rest c = c .before .before .before .before .before .before .before .before .before .before .before .before .before .before .before .before .before .before
 
 abbrev after-fill-ones : tie.After-part-rows-arg4 → tie.After-fill-ones
-after-fill-ones c = c .before .before .before .before .before .before
+after-fill-ones c = c .before .before .before .before .before .before .before .before .before .before
+
+abbrev after-clear : tie.After-part-rows-arg4 → tie.After-clear
+after-clear c = c .before .before .before .before .before .before
 
 abbrev entry : tie.After-part-rows-arg4 → tie.Start
 entry c = start (after-index-rest c .before)
@@ -63,18 +66,21 @@ index-rest-requires c κs =
 fill-ones-requires : tie.Need-fill-ones-requires
 fill-ones-requires c κs = search needs
 
+clear-requires : tie.Need-clear-requires
+clear-requires c κs = search needs
+
 part-rows-requires : tie.Need-part-rows-requires
 part-rows-requires c κs =
     let w = entry c .pre .1 .0 in
     let size = after-index-rest c .index-rest .kept .1 .1 .1 .1 .0 ∙ entry c .pre .1 .1 in
-    (entry c .pre .0, (slots c, w .lows, w .highs, w .room, after-fill-ones c .fill-ones .ensures ∙ ap (table one) size))
+    (entry c .pre .0, (slots c, w .lows, w .highs, after-clear c .clear .kept .0 ∙ w .room, after-fill-ones c .fill-ones .ensures ∙ ap (table one) size, after-clear c .clear .ensures ∙ ap (λ y. replicate y 0) (w .room)))
 
 complete-rows-requires : tie.Need-complete-rows-requires
 complete-rows-requires c κs =
     let earlier = after-part-rows c .before in
     let w = entry earlier .pre .1 .0 in
     let kept = after-part-rows c .part-rows .kept in
-    (slots-of (kept .1 .1 .1 .1 .1 .1 .1 .1 .1 .0 ∙ sums-size earlier) refl (slots earlier), w .places, w .full, kept .1 .1 .1 .1 .1 .1 .1 .1 .1 .1 .0 ∙ w .room)
+    (slots-of (kept .1 .1 .1 .1 .1 .1 .1 .1 .1 .0 ∙ sums-size earlier) refl (slots earlier), w .places, w .full, kept .1 .1 .1 .1 .1 .1 .1 .1 .1 .1 .0 ∙ after-clear earlier .clear .kept .0 ∙ w .room)
 
 same-length : tie.Need-same-length
 same-length c = search needs
@@ -101,7 +107,7 @@ returns c =
     let done = c .before .before .complete-rows in
     parts-all (rowAt (g .m) (g .k) (g .places .now) (g .px .now) (g .l .now) (g .u .now) a b) (g .k) n (done .last .1 .1 .1 .1 .1 .1 .0)
     (λ i h. row-complete (g .m) (g .k) (g .places .now) (g .px .now) (g .l .now) (g .u .now) a b (indexed earlier) (after-part-rows last .part-rows .ensures) h (done .ensures i h))
-    (done .kept .1 .1 .1 .1 .1 .1 .0 ∙ after-part-rows last .part-rows .kept .1 .1 .1 .1 .1 .1 .1 .1 .1 .1 .0 ∙ w .room)
+    (done .kept .1 .1 .1 .1 .1 .1 .0 ∙ after-part-rows last .part-rows .kept .1 .1 .1 .1 .1 .1 .1 .1 .1 .1 .0 ∙ after-clear earlier .clear .kept .0 ∙ w .room)
     ∙ ap joined (rows-kept (g .m) (g .k) (g .places .now) (g .px .now) (g .l .now) (g .u .now) (g .a .now) (g .b .now) a b (r .ensures .firsts) (r .ensures .seconds))
 
 pub fill-rows-spec : {M : Type 1} → statement M
@@ -110,6 +116,7 @@ fill-rows-spec =
     (tie.spec
     index-rest-requires
     fill-ones-requires
+    clear-requires
     part-rows-requires
     complete-rows-requires
     same-length

@@ -5,7 +5,7 @@ use native.Mathlib.Omega.{arith}
 use lib.ListN.{length}
 use Rattle.generator.proofs.Turns.{slots-of}
 use Rattle.matrix.specs.Given.{Parts}
-use Rattle.matrix.proofs.Joined.{row-room, lent-size, returned-size}
+use Rattle.matrix.proofs.Joined.{row-room, lent-part, lent-size, returned-size}
 use Rattle.matrix.proofs.Marks.{parts-none, parts-turn}
 use Rattle.matrix.proofs.write.part_rows.Statement.{statement}
 use Rattle.matrix.proofs.write.part_rows.Tie as tie
@@ -34,7 +34,7 @@ loop-holds : tie.Need-loop-holds Inv-loop μ-loop
 loop-holds c =
     let s = c .before .before .before .before .before .before .before in
     let a = s .args in
-    (omega arith, refl, refl, parts-none (a .m) (a .k) (a .px .now) (a .l .now) (a .u .now) (a .a .now) (a .b .now) (s .pre .1 .4))
+    (omega arith, refl, refl, parts-none (a .m) (a .k) (a .px .now) (a .l .now) (a .u .now) (a .a .now) (a .b .now) (s .pre .1 .4) (s .pre .1 .5))
 
 mul-start : tie.Need-mul-start Inv-loop μ-loop
 mul-start c = omega (arith, room c)
@@ -57,7 +57,7 @@ fill-row-requires c κs =
     let h = entry turn .pre in
     let at = turn .before .loop in
     let n = length (entry turn .args .px .now) in
-    (h .0, (slots-of (at .inv .1 ∙ h .1 .0 .sum-size) (lent-size n (at .i) (at .out) (room turn .0)) (h .1 .0), h .1 .1, h .1 .2, turn .loop-test .taken))
+    (h .0, (slots-of (at .inv .1 ∙ h .1 .0 .sum-size) (lent-size n (at .i) (at .out) (room turn .0)) (h .1 .0), h .1 .1, h .1 .2, turn .loop-test .taken, lent-part n (at .i) (at .out) (room turn .0) ∙ at .inv .3 .rest (at .i) (omega arith) (turn .loop-test .taken)))
 
 add-i : tie.Need-add-i Inv-loop μ-loop
 add-i c = let f = entry (in-loop c) .pre .1 .0 in record { fits = omega (arith, in-loop c .loop-test .taken, f .points, f .most) }
