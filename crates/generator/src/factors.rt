@@ -55,7 +55,10 @@ fn take_multiples(
         }
         j += 1;
     }
-    Multiples { sum: sum, over: over }
+    Multiples {
+        sum: sum,
+        over: over,
+    }
 }
 
 // The rows so far with one more point, and its own row, where the function that is raised is rc and the other t·rc.
