@@ -4,7 +4,6 @@ use crate::slices::add_multiple;
 use crate::slices::inner_product;
 use crate::slices::scale;
 use field::inverse;
-ghost use mathlib.Core.Path.{_≡_};
 ghost use Prim.Native.Nat.{_+_, _<_, _≤_};
 ghost use lib.ListN.{length};
 ghost use Rattle.field.specs.Tables.{Tables};

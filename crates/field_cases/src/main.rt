@@ -1,6 +1,6 @@
 // Known facts of every field, computed by the tables: the order of the element 2, products, inverses, and a sum over the whole product table.
 // The file `stdout` beside this folder has what they must be.
-ghost use Prim.Native.Nat.{ℕ, _≤_, _<_, _*_};
+ghost use Prim.Native.Nat.{_*_};
 ghost use Rattle.field.specs.Galois.{IsField};
 ghost use Rattle.field.specs.Tables.{Tables};
 use io::print_decimal;

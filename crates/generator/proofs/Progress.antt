@@ -1,6 +1,6 @@
 -- Two points at once are one after the other on lists that nothing holds, so the rows go on as by two steps.
 use Prim.Native.Nat.{ℕ, _+_, _<_, _≤_}
-use mathlib.Core.Path.{_≡_, sym, _∙_, ap₂, subst}
+use mathlib.Core.Path.{_≡_, sym, subst}
 use mathlib.Core.Bool.{Bool, true, false, not, cond}
 use mathlib.Core.List.{List}
 use native.Mathlib.Omega.{arith}
@@ -14,7 +14,7 @@ use Rattle.values.proofs.Runs.{first-more}
 use Rattle.two_places.specs.declared.turn.Factors.{Factors}
 use Rattle.two_places.specs.Turns.{lowBetween, highBetween, Turns}
 use Rattle.two_places.proofs.Turns.{first-passes, next-between, some-between, factor-between}
-use Rattle.generator.specs.Rows.{RowsRaised, RowsStep, raisedOf, Rows, pairAfter}
+use Rattle.generator.specs.Rows.{RowsRaised, RowsStep, raisedOf, Rows}
 use Rattle.generator.specs.Advance.{BothRows, RowsAdvance}
 use Rattle.generator.proofs.Adding.{row-swap, rows-both, rows-round}
 use Rattle.generator.proofs.Words.{rows-next}

@@ -1,6 +1,5 @@
 -- The rows of a run with one more point or two.
 use Prim.Native.Nat.{ℕ, _+_, _<_, _≤_}
-use mathlib.Core.Path.{_≡_}
 use mathlib.Core.List.{List}
 use lib.ListN.{getD}
 use Rattle.engine.specs.declared.pair.Sizes.{Sizes}

@@ -9,7 +9,6 @@ use field::logarithm;
 use field::product_by_log;
 use field::quotient;
 ghost use mathlib.Core.Path.{_≡_};
-ghost use mathlib.Core.List.{List};
 ghost use Prim.Native.Nat.{_<_, _≤_};
 ghost use lib.ListN.{length, getD, replicate};
 ghost use Rattle.field.specs.Sum.{_⊕_};

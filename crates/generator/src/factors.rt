@@ -12,7 +12,7 @@ use values::pair::pair_step;
 ghost use mathlib.Core.Path.{_≡_};
 ghost use mathlib.Core.Bool.{cond};
 ghost use Prim.Native.Nat.{_+_, _<_, _≤_};
-ghost use lib.ListN.{length, getD};
+ghost use lib.ListN.{length};
 ghost use Rattle.field.specs.Tables.{Tables};
 ghost use Rattle.values.specs.Values.{Sweeping, Steps, Fits};
 ghost use Rattle.generator.specs.Rows.{total, multipleAt, Over, RowLists, RowsRaised, RowsEither, RowsStep, raisedOf};

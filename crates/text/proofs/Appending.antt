@@ -8,7 +8,7 @@ use lib.Dec.{ltb}
 use lib.ListN.{length, getD, take, drop, set, length-append, length-set, length-drop, drop-of-length-le}
 use lib.Seq.{take-all}
 use Rattle.basics.proofs.Loops.{next, appended-one, appended-as}
-use Rattle.text.specs.Text.{comma, lineEnd, digits, decimal, following, joined, lineOf}
+use Rattle.text.specs.Text.{comma, digits, decimal, following, joined, lineOf}
 use Rattle.text.specs.Stages.{Appends}
 
 pub put-one : (out : List ℕ) (n b : ℕ) → n < length out → Appends (b ∷ []) out n (set out n b) (n + 1)

@@ -16,7 +16,7 @@ use Rattle.engine.specs.Arrays.{Ordered}
 use Rattle.values.specs.Values.{Swept, Steps, Passes, raisedAt, gainedAt}
 use Rattle.values.proofs.Steps.{steps, steps-passes, steps-round}
 use Rattle.two_places.specs.declared.turn.Factors.{Factors}
-use Rattle.two_places.specs.Turns.{lowBetween, highBetween, raisedTwice, gainedTwice, IsFactors, Turns, Twice}
+use Rattle.two_places.specs.Turns.{lowBetween, highBetween, raisedTwice, gainedTwice, Turns}
 
 -- the list of what a rule gives is as if it were swept
 swept-table : (rule : ℕ → ℕ) (e : ℕ) (old : List ℕ) {n : ℕ} → length old ≡ n → Swept rule e old (table rule n)

@@ -6,7 +6,7 @@ use lib.ListN.{length, getD}
 use Rattle.basics.specs.Lists.{table}
 use Rattle.field.specs.Sum.{_⊕_}
 use Rattle.field.specs.Galois.{galois, product, inverse}
-use Rattle.elliptic.specs.Pair.{State, after}
+use Rattle.elliptic.specs.Pair.{after}
 use Rattle.engine.specs.declared.pair.Sizes.{Sizes}
 use Rattle.values.specs.Values.{Shown, ShownIn, RunsFirst, Steps, Passes, raisedAt, gainedAt, pointsIn}
 use Rattle.two_places.specs.declared.turn.Factors.{Factors}

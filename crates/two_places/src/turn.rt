@@ -16,7 +16,7 @@ ghost use lib.ListN.{length};
 ghost use Rattle.field.specs.Tables.{Tables};
 ghost use Rattle.elliptic.specs.Pair.{growth};
 ghost use Rattle.engine.specs.Arrays.{Ordered};
-ghost use Rattle.values.specs.Values.{Swept, Fits};
+ghost use Rattle.values.specs.Values.{Swept};
 ghost use Rattle.two_places.specs.Turns.{raisedTwice, gainedTwice, IsFactors, Turns, Twice};
 
 // The multiple of L that U gains by the first place, the value of that at the second, and the multiple of it that L gains there.

@@ -1,5 +1,4 @@
 -- The rows by the first point, by the second, and then L and U by both.
-use mathlib.Core.Path.{_≡_}
 use Prim.Native.Nat.{_+_, _<_}
 use lib.ListN.{length}
 use native.Mathlib.Omega.{arith}

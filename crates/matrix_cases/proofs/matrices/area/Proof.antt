@@ -1,7 +1,6 @@
 -- A product of two numbers up to 288 is small.
 use native.Mathlib.Nat.{mul-le-mul}
 use native.Mathlib.Omega.{arith}
-use borrow.Author.Needs.{needs}
 use Rattle.matrix_cases.proofs.matrices.area.Statement.{statement}
 use Rattle.matrix_cases.proofs.matrices.area.Tie as tie
 

@@ -1,7 +1,6 @@
 -- The tests say that the two steps can be made at once; else one is made.
-use Prim.Native.Nat.{_+_, _<_}
 use mathlib.Core.Bool.{true}
-use mathlib.Core.Path.{_≡_, sym, _∙_}
+use mathlib.Core.Path.{_≡_}
 use native.Mathlib.Omega.{arith}
 use borrow.Author.Tests.{not-false}
 use Rattle.two_places.specs.Turns.{Turns}

@@ -1,6 +1,6 @@
 -- Each factor is what its calls say.
 use Prim.Native.Nat.{_+_}
-use mathlib.Core.Path.{_≡_, ap, _∙_}
+use mathlib.Core.Path.{ap, _∙_}
 use lib.Bits.{bitXor}
 use lib.ListN.{getD}
 use borrow.Author.Needs.{needs}

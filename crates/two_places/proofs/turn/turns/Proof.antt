@@ -2,7 +2,6 @@
 use mathlib.Core.Path.{_≡_}
 use Prim.Native.Nat.{ℕ}
 use native.Mathlib.Omega.{arith}
-use borrow.Author.Needs.{needs}
 use Rattle.two_places.proofs.turn.turns.Statement.{statement}
 use Rattle.two_places.proofs.turn.turns.Tie as tie
 
