@@ -10,7 +10,7 @@ use native.Mathlib.Nat.{not-suc-le-zero, le-of-suc-le-suc, le-trans}
 use borrow.Author.Tests.{eqb-true, eq-eqb, not-true}
 use lib.Dec.{eqb}
 use lib.ListN.{length, getD, take, drop, replicate, length-append, length-drop, List·getD-append}
-use lib.Seq.{getD-at, take-at, length-take-le, length-front, ext-getD}
+use lib.Seq.{getD-at, take-at, take-all, length-take-le, length-front, ext-getD}
 use Rattle.basics.specs.Lists.{all, any, filter, different, table, same, Holds}
 
 -- ---- tests that are joined by &&
@@ -212,6 +212,10 @@ module _ {A : Type 0} where
   -- the first n that were lent, as they come back
   pub front : (l e : List A) (n : ℕ) → n ≤ length l → length e ≡ length (take n l) → take n (e ++ drop n l) ≡ e
   front l e n h k = take-at e (drop n l) n (k ∙ length-take-le n l h)
+
+  -- a list that was copied to one of its length
+  pub copied : {n : ℕ} {v out : List A} → length v ≡ n → length out ≡ n → take n out ≡ take n v → out ≡ v
+  copied {n} {v} {out} e d h = sym (take-all n out (omega arith)) ∙ h ∙ take-all n v (omega arith)
 
   -- a middle part, from n to m, as it comes back behind the first n
   pub extended : (l z r : List A) (n m : ℕ) → n ≤ m → m ≤ length l → length z ≡ length (take (m - n) (drop n l)) → take m (take n l ++ (z ++ r)) ≡ take n l ++ z

@@ -6,11 +6,11 @@ use lib.IntN.{ℤ, pos, negℤ}
 use Rattle.basics.specs.declared.Refusal.{Refusal}
 use Rattle.basics.specs.declared.Refusal.the-variants.{FieldNumber, CurveCoefficient, Singular, PointCount, OffCurve, RepeatedPoint, Dimension}
 use Rattle.basics.specs.declared.Refusal.the-variants.{Length, Place, RepeatedPlace, Symbol, Dependent, TooFew, NoCodeword, Independent}
-use Rattle.basics.specs.declared.Refusal.the-variants.{Reading, NeverPacked, StampOrder, Hour, SheetShape}
+use Rattle.basics.specs.declared.Refusal.the-variants.{Reading, NeverPacked, StampOrder, Hour, SheetShape, TooFar}
 use Rattle.basics.specs.declared.Answer.{Answer}
 use Rattle.basics.specs.declared.Answer.the-variants.{Done, Counted, Refused}
 
--- document 01's number for each refusal
+-- the number of documents 01 and 02 for each refusal
 abbrev pub number : Refusal → ℕ
 number FieldNumber = 1
 number CurveCoefficient = 2
@@ -32,6 +32,7 @@ number NeverPacked = 17
 number StampOrder = 18
 number Hour = 19
 number SheetShape = 20
+number TooFar = 21
 
 -- what an answer counts
 abbrev pub counts : Answer → ℕ

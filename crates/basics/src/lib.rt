@@ -6,7 +6,7 @@ ghost use mathlib.Core.Path.{_≡_};
 ghost use Rattle.basics.specs.Outcome.{number, counts, status};
 ghost use Prim.Native.Nat.{_≤_};
 
-// Why an operation refuses: one case for each number of document 01.
+// Why an operation refuses: one case for each number of documents 01 and 02.
 pub enum Refusal {
     FieldNumber,
     CurveCoefficient,
@@ -28,6 +28,7 @@ pub enum Refusal {
     StampOrder,
     Hour,
     SheetShape,
+    TooFar,
 }
 
 // Accepted, with a count where the operation has one, or refused.
@@ -43,7 +44,7 @@ pub struct Place(pub u16);
 // An index into a message: the symbol at index i belongs to the i-th chosen place.
 pub struct MessageIndex(pub usize);
 
-// The number that document 01 gives a refusal.
+// The number that documents 01 and 02 give a refusal.
 pub fn number(refusal: Refusal) -> u8
     ensures { λ n. ⌜ n ≡ number refusal ⌝ }
 {
@@ -68,6 +69,7 @@ pub fn number(refusal: Refusal) -> u8
         Refusal::StampOrder => 18,
         Refusal::Hour => 19,
         Refusal::SheetShape => 20,
+        Refusal::TooFar => 21,
     }
 }
 

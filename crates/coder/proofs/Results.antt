@@ -5,7 +5,6 @@ use mathlib.Core.Bool.{Bool, true}
 use mathlib.Core.List.{List}
 use lib.Dec.{eqb}
 use lib.ListN.{length, take}
-use lib.Seq.{take-all}
 use native.Mathlib.Omega.{arith}
 use borrow.Author.Tests.{eq-eqb}
 use Rattle.basics.specs.declared.Answer.the-variants.{Done}
@@ -72,7 +71,3 @@ module _ {code : Code} {J : List ℕ} (w : Works code J) (i : MessageIndex) wher
   pub the-row : {v : List ℕ} → v ≡ solvedWord code J unit → v ≡ row code J i
   unfolding row
   the-row = the-word code J unit (w .placed .done) (posed-enough posed-unit (λ e. w .works)) (w .full)
-
--- a word that is copied to a list of its length
-pub whole-word : {n : ℕ} {v out : List ℕ} → length v ≡ n → length out ≡ n → take n out ≡ take n v → out ≡ v
-whole-word {n} {v} {out} e d h = sym (take-all n out (omega arith)) ∙ h ∙ take-all n v (omega arith)

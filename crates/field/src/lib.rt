@@ -239,7 +239,15 @@ pub fn quotient(m: u8, powers: &[u8; 1021], logs: &[u16; 512], a: u8, b: u8) -> 
     power(m, powers, logarithm(m, logs, a), neg_logarithm(m, logs, b))
 }
 
-fn fill_products(m: u8, powers: &[u8; 1021], logs: &[u16; 512], a: &[u8], b: &[u8], out: &mut [u8])
+// The products of two lists, element by element.
+pub fn fill_products(
+    m: u8,
+    powers: &[u8; 1021],
+    logs: &[u16; 512],
+    a: &[u8],
+    b: &[u8],
+    out: &mut [u8],
+)
     requires { ⌜ Tables m (now powers) (now logs) ⌝ }
     requires { ⌜ (length (now a) ≡ length (now out)) × (length (now b) ≡ length (now out)) ⌝ }
     ensures { λ _. ⌜ now (out .exit) ≡ table (productAt m (now (a .entry)) (now (b .entry))) (length (now (out .entry))) ⌝ }

@@ -137,7 +137,7 @@ module _ {code : Code} {J : List ℕ} (p : Placed code J) (us : List ℕ) (s : s
 
   -- the interpolant of the first k − 1 places, corrected there, is what is solved for
   module _ {i : ℕ} (d : i ≡ cond z (code .k) c) where
-    is-solution : {l f : List ℕ} → l ≡ after F (pts p) us c .low → f ≡ after F (pts p) us c .word
+    pub is-solution : {l f : List ℕ} → l ≡ after F (pts p) us c .low → f ≡ after F (pts p) us c .word
         → padded (code .k) (corrected F (pointOf (code .xs) (code .ys) (getD J i 0)) (getD us i 0) l f) ≡ solution code J us
     unfolding solved lastIndex
     is-solution {l} {f} x y =

@@ -10,7 +10,8 @@ use Rattle.solving.specs.Given.{solvedWord}
 use Rattle.solving.specs.Tests.{posedAnswer}
 use Rattle.solving.proofs.Chains.{posed-go, posed-stop, solvable, enough}
 use Rattle.solving.proofs.Link.{all-in}
-use Rattle.coder.proofs.Results.{agreed-by, rebuilt, whole-word}
+use Rattle.basics.proofs.Lists.{copied}
+use Rattle.coder.proofs.Results.{agreed-by, rebuilt}
 use borrow.Author.Needs.{needs}
 use Rattle.coder.proofs.rebuild.rebuild_run.Statement.{statement}
 use Rattle.coder.proofs.rebuild.rebuild_run.Tie as tie
@@ -81,7 +82,7 @@ returns-2 c =
     posed-go _ _ _ (passed at) _
     (pass _ t
     (accept-pair
-    (whole-word (v .kept .1 .1 .1 .1 .1 .1 .1 .0 ∙ s .pre .1 .1 .3) (w .kept .1 .1 .0 ∙ s .pre .1 .1 .1) (w .ensures) ∙ rebuilt _ _ _ (s .pre .1 .0) (enough _ _ _ (passed at) (s .pre .1 .0) (s .pre .1 .1 .0)) (holds at) t)
+    (copied (v .kept .1 .1 .1 .1 .1 .1 .1 .0 ∙ s .pre .1 .1 .3) (w .kept .1 .1 .0 ∙ s .pre .1 .1 .1) (w .ensures) ∙ rebuilt _ _ _ (s .pre .1 .0) (enough _ _ _ (passed at) (s .pre .1 .0) (s .pre .1 .1 .0)) (holds at) t)
     (c .before .before .clear-room .ensures)))
 
 same-length-5 : tie.Need-same-length-5

@@ -9,7 +9,8 @@ use Rattle.codewords.proofs.Accepted.{accepted-done}
 use Rattle.solving.specs.Given.{solvedWord}
 use Rattle.solving.specs.Tests.{posedAnswer}
 use Rattle.solving.proofs.Chains.{posed-go, posed-stop, enough}
-use Rattle.coder.proofs.Results.{the-word, whole-word}
+use Rattle.basics.proofs.Lists.{copied}
+use Rattle.coder.proofs.Results.{the-word}
 use borrow.Author.Needs.{needs}
 use Rattle.coder.proofs.systematic_word.systematic_word_run.Statement.{statement}
 use Rattle.coder.proofs.systematic_word.systematic_word_run.Tie as tie
@@ -57,7 +58,7 @@ returns c =
     let w = c .before .before .before .before .before .before .copy in
     posed-go _ _ _ (passed at) _
     (accept-pair
-    (whole-word (v .kept .1 .1 .1 .1 .1 .1 .1 .0 ∙ s .pre .1 .1 .4) (w .kept .1 .1 .0 ∙ s .pre .1 .1 .2) (w .ensures) ∙ the-word _ _ _ (s .pre .1 .0) (enough _ _ _ (passed at) (s .pre .1 .0) (s .pre .1 .1 .1 ∙ sym (s .pre .1 .1 .0))) (s .pre .1 .1 .0) (holds at))
+    (copied (v .kept .1 .1 .1 .1 .1 .1 .1 .0 ∙ s .pre .1 .1 .4) (w .kept .1 .1 .0 ∙ s .pre .1 .1 .2) (w .ensures) ∙ the-word _ _ _ (s .pre .1 .0) (enough _ _ _ (passed at) (s .pre .1 .0) (s .pre .1 .1 .1 ∙ sym (s .pre .1 .1 .0))) (s .pre .1 .1 .0) (holds at))
     (c .before .before .clear-room .ensures))
 
 same-length-4 : tie.Need-same-length-4
