@@ -1,0 +1,3 @@
+-- Rows in arrays, by their defects.
+pub mod Arrays
+pub mod First
