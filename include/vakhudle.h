@@ -33,7 +33,8 @@ enum vakhudle_refusal {
     VAKHUDLE_NEVER_PACKED = 17,     /* bits that packing never writes */
     VAKHUDLE_STAMP_ORDER = 18,      /* a stamp is not greater than the one before */
     VAKHUDLE_HOUR = 19,             /* an hour is out of range */
-    VAKHUDLE_SHEET_SHAPE = 20       /* a job sheet of another shape */
+    VAKHUDLE_SHEET_SHAPE = 20,      /* a job sheet of another shape */
+    VAKHUDLE_TOO_FAR = 21           /* no codeword is near enough */
 };
 
 /* The products of two lists of symbols, element by element: out[i] = a[i] * b[i] in the field. Refuses 1, then 8 if the lengths differ. */
@@ -128,6 +129,12 @@ int32_t vakhudle_pick(uint8_t field, uint8_t g1, uint8_t g2, uint8_t g3, uint8_t
 int32_t vakhudle_rebuild(uint8_t field, uint8_t g1, uint8_t g2, uint8_t g3, uint8_t g4, uint8_t g6, const uint8_t *xs, size_t xs_len,
                          const uint8_t *ys, size_t ys_len, size_t k, const uint16_t *places, size_t places_len, const uint8_t *symbols,
                          size_t symbols_len, uint8_t *symbols_out, size_t symbols_out_len, uint8_t *work, size_t work_len);
+
+/* The n symbols of the codeword that differs from the n received ones in at most t places: t is (n - k - 2) div 2, and 0 where n - k is 1. There is
+ * never more than one. Returns the count of places changed. Refuses code, 8, 11, 21. */
+int32_t vakhudle_correct(uint8_t field, uint8_t g1, uint8_t g2, uint8_t g3, uint8_t g4, uint8_t g6, const uint8_t *xs, size_t xs_len,
+                         const uint8_t *ys, size_t ys_len, size_t k, const uint8_t *received, size_t received_len, uint8_t *symbols_out,
+                         size_t symbols_out_len, uint8_t *work, size_t work_len);
 
 #ifdef __cplusplus
 }

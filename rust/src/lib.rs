@@ -125,6 +125,10 @@ over_code! {
     /// The n symbols of the codeword that has these symbols at these places, k or more.
     rebuild = vakhudle_rebuild(places: u16, symbols: u8; symbols_out: u8, work: u8);
 
+    /// The n symbols of the codeword that differs from the n received ones in at most t places: t is (n − k − 2) div 2, and 0 where n − k is 1.
+    /// Answers the count of places changed.
+    correct = vakhudle_correct(received: u8; symbols_out: u8, work: u8);
+
     /// Packs k·m div 15 means into k symbols.
     pack = vakhudle_pack(means: i16; symbols_out: u8);
 

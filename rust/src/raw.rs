@@ -53,4 +53,5 @@ over_code! {
     vakhudle_relation(places: *const u16, coefficients_out: *mut u8, work: *mut u8);
     vakhudle_pick(ranked: *const u16, places_out: *mut u16, work: *mut u8);
     vakhudle_rebuild(places: *const u16, symbols: *const u8, symbols_out: *mut u8, work: *mut u8);
+    vakhudle_correct(received: *const u8, symbols_out: *mut u8, work: *mut u8);
 }

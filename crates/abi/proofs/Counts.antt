@@ -2,10 +2,11 @@
 use Prim.Native.Nat.{ℕ, _≤_}
 use mathlib.Core.List.{List}
 use native.Mathlib.Omega.{arith}
+use borrow.Author.Tests.{eqb-true}
 use lib.IntN.{ℤ}
 use lib.ListN.{length}
 use Rattle.basics.specs.Outcome.{answer, counts}
-use Rattle.basics.proofs.Outcomes.{counts-check, counts-counted, counts-accepted}
+use Rattle.basics.proofs.Outcomes.{counts-check, counts-if, counts-counted, counts-accepted}
 use Rattle.basics.proofs.Loops.{filter-table-few}
 use Rattle.field.specs.Products.{productsOutcome}
 use Rattle.elliptic.specs.declared.Curve.{Curve}
@@ -16,6 +17,9 @@ use Rattle.code.specs.Heard.{heardAt, heardPlaces, heardTested, heardOutcome}
 use Rattle.code.proofs.Tested.{counts-code}
 use Rattle.hours.specs.Means.{meansOutcome}
 use Rattle.coder.specs.Outcomes.{recoverOutcome, systematicFunctionOutcome, systematicWordOutcome, matrixOutcome, relationOutcome, pickOutcome, rebuildOutcome}
+use Rattle.correction.specs.Outcomes.{correctOutcome}
+use Rattle.decoding.specs.Near.{distance, corrected}
+use Rattle.decoding.proofs.Distance.{distance-most}
 use Rattle.blocks.specs.Outcomes.{plainTested, plainOutcome, packTested, packBlockOutcome, unpackTested, unpackBlockOutcome}
 
 -- the largest count that the C interface takes
@@ -73,3 +77,10 @@ module _ (code : Code) where
 
   pub rebuild-counts : (J us out work : List ℕ) → counts (answer (rebuildOutcome code J us out work)) ≤ most
   rebuild-counts J us out work = counts-code code _ most (λ h. (counts-check most _ _ _ (counts-check most _ _ _ (counts-check most _ _ _ (counts-check most _ _ _ (counts-check most _ _ _ (counts-check most _ _ _ (counts-check most _ _ _ (counts-check most _ _ _ (counts-check most _ _ _ (counts-check most _ _ _ (counts-accepted most _))))))))))))
+
+  -- no more places are changed than there are
+  pub correct-counts : (r out work : List ℕ) → counts (answer (correctOutcome code r out work)) ≤ most
+  correct-counts r out work =
+      counts-code code _ most
+      (λ h. counts-if most _ _ _ (λ e. counts-check most _ _ _ (counts-check most _ _ _ (counts-check most _ _ _ (counts-check most _ _ _
+      (counts-counted most (distance (corrected code r) r) _ (omega (arith, h, eqb-true (length r) (n code) e, distance-most (corrected code r) r))))))))

@@ -1,5 +1,5 @@
-// The C interface: plain numbers and slices in, one signed number out, which is 0 or a count where the call is accepted and minus document 01's
-// number where it is refused. A slice is a pointer and a length. Each export calls the operation of the same name.
+// The C interface: plain numbers and slices in, one signed number out, which is 0 or a count where the call is accepted and minus the number
+// of documents 01 and 02 where it is refused. A slice is a pointer and a length. Each export calls the operation of the same name.
 ghost use mathlib.Core.Path.{_≡_};
 ghost use lib.ListN.{length};
 ghost use Rattle.basics.specs.Outcome.{Reports};
@@ -8,6 +8,7 @@ ghost use Rattle.curve.specs.Points.{pointsOutcome};
 ghost use Rattle.code.specs.Heard.{heardOutcome};
 ghost use Rattle.blocks.specs.Outcomes.{plainOutcome, packBlockOutcome, unpackBlockOutcome};
 ghost use Rattle.coder.specs.Outcomes.{recoverOutcome, systematicFunctionOutcome, systematicWordOutcome, matrixOutcome, relationOutcome, pickOutcome, rebuildOutcome};
+ghost use Rattle.correction.specs.Outcomes.{correctOutcome};
 ghost use Rattle.hours.specs.Means.{meansOutcome};
 ghost use Rattle.sheet.specs.Job.{sheetOutcome};
 ghost use Rattle.abi.specs.Arguments.{curveOf, parametersOf, codeFrom};
@@ -324,4 +325,27 @@ pub extern "C" fn vakhudle_rebuild(
 {
     let parts = parameters(field, g1, g2, g3, g4, g6, k);
     status(coder::rebuild::rebuild(parts, xs, ys, places, symbols, out, work))
+}
+
+// Correct.
+#[no_mangle]
+pub extern "C" fn vakhudle_correct(
+    field: u8,
+    g1: u8,
+    g2: u8,
+    g3: u8,
+    g4: u8,
+    g6: u8,
+    xs: &[u8],
+    ys: &[u8],
+    k: usize,
+    received: &[u8],
+    out: &mut [u8],
+    work: &mut [u8],
+) -> i32
+    ensures { λ r. ⌜ Reports (correctOutcome (codeFrom field g1 g2 g3 g4 g6 k (now (xs .entry)) (now (ys .entry))) (now (received .entry)) (now (out .entry)) (now (work .entry))) r
+        (now (out .entry), now (work .entry)) (now (out .exit), now (work .exit)) ⌝ }
+{
+    let parts = parameters(field, g1, g2, g3, g4, g6, k);
+    status(correction::operation::correct(parts, xs, ys, received, out, work))
 }

@@ -35,19 +35,20 @@ use Rattle.hours.specs.Means.{meanAt}
 use Rattle.hours.specs.Packing.{unpackedAt, stream}
 use Rattle.solving.specs.Tests.{Lent, room, cleared}
 use Rattle.coder.specs.Outcomes.{joined}
+use Rattle.decoding.specs.Near.{correctable, corrected}
 use Rattle.text.specs.Reading.{Sheet}
 use Rattle.sheet.specs.Job.{codeFor, jobOutcome, answerTo, sheetOutcome, room as sheetRoom, Answers as AnswersSheet}
 use Rattle.demands.specs.Call.{Call, Of}
 use Rattle.demands.specs.Order.{Test, first, numbers, codeTests, pointsTests, heardTests, jobTests, sheetTests}
 use Rattle.demands.specs.Demand1.{Answers, Filled, Listed, Worked, PointsAnswers, Works, Demand1}
 use Rattle.demands.proofs.Passing.{accepted-on, counted-on}
-use Rattle.demands.proofs.Ones.{one-word, is-recovered, the-in, in-codeword, agreed-some, codeword-length, the-function}
+use Rattle.demands.proofs.Ones.{one-word, is-recovered, the-in, in-codeword, agreed-some, codeword-length, the-function, the-within}
 use Rattle.demands.proofs.Rows.{joined-length, row-lengths, row-count}
 use Rattle.demands.proofs.Order.{Hold, inOrder, first-hold, order-answer, answers, code-answers, accepts-accepted, accepts-counted}
 
 -- ---- what is accepted
 
-filled : {A : Type 0} {l : List A} {r : Answer} {old new : List A} → length l ≡ length old → Meets (accepted l) r old new → Filled l r old new
+filled : {A : Type 0} {l : List A} {r : Answer} {old new : List A} → length l ≡ length old → Meets (accepted l) r old new → Filled Done l r old new
 filled e m = let (d, w) = accepted-on m in record { done = d; written = w; whole = e }
 
 module _ (l old : List ℕ) (e : length l ≤ length old) where
@@ -70,9 +71,9 @@ zeros-rest m l = ap (λ i. drop i (replicate m 0 ++ l)) (sym (length-replicate m
 zeros-length : (m : ℕ) (l : List ℕ) → m ≤ length l → length (replicate m 0 ++ drop m l) ≡ length l
 zeros-length m l h = omega (arith, length-append (replicate m 0) (drop m l), length-replicate {A = ℕ} m 0, length-drop m l)
 
-worked : {l : List ℕ} (c : Call) → length l ≡ length (c .out) → room ≤ length (c .work) → Of (λ out work. accepted (l, cleared work)) c → Worked l c
-worked c e h m =
-    let (d, w) = accepted-on m in
+worked : {a : Answer} {l : List ℕ} (c : Call) → length l ≡ length (c .out) → room ≤ length (c .work)
+    → (c .answer ≡ a) × (_≡_ {A = Lent} (c .out-after, c .work-after) (l, cleared (c .work))) → Worked a l c
+worked c e h (d, w) =
     let after = ap (λ (m : Lent). m .1) w in
     record {
       output = record { done = d; written = ap (λ (m : Lent). m .0) w; whole = e };
@@ -126,6 +127,9 @@ module _ (code : Code) (done : codeAnswer code ≡ Done) where
 
   recovered-length : (w : List ℕ) → codeword code w ≡ true → length (recovered code w) ≡ code .k
   recovered-length w h = function-length (recovered code w) (is-recovered code done w h)
+
+  corrected-length : (r : List ℕ) → correctable code r ≡ true → length (corrected code r) ≡ n code
+  corrected-length r h = codeword-length code done (corrected code r) (the-within code r h .is-codeword)
 
   pick-length : (J : List ℕ) → places code J ≡ true → code .k ≤ length J → not (eqb (length J) (code .k) && dependent code J) ≡ true → length (pick code J) ≡ code .k
   unfolding usable choice
@@ -186,7 +190,7 @@ working : (code : Code) (ns : List ℕ) (ts : List Test) (l : List ℕ) (c : Cal
     → (codeAnswer code ≡ Done → Hold ts → (length l ≡ length (c .out)) × (room ≤ length (c .work)))
     → Of (λ out work. inOrder (codeTests code ++ ts) (accepted (l, cleared work))) c → Works ns (codeTests code ++ ts) l c
 working code ns ts l c e w =
-    code-answers code ns ts (accepted (l, cleared (c .work))) e (accepts-accepted {M = Lent} _) (λ done held. let (size, space) = w done held in worked c size space)
+    code-answers code ns ts (accepted (l, cleared (c .work))) e (accepts-accepted {M = Lent} _) (λ done held m. let (size, space) = w done held in worked c size space (accepted-on m))
 
 -- THEOREM
 pub demand1 : Demand1
@@ -222,6 +226,9 @@ demand1 =
       rebuild = λ code J us c.
           working code _ _ _ c refl
           (λ done (m, (e, (b, (r, (p, (d, (s, (l, (f, (g, _)))))))))). (agreed-length code done J us g ∙ sym (eqb-true _ _ b), leb-true _ _ r));
+      correct = λ code w c.
+          code-answers code _ _ _ refl (accepts-counted {M = Lent} _ _)
+          (λ done (a, (b, (r, (s, (t, _))))) m. worked c (corrected-length code done w t ∙ sym (eqb-true _ _ b)) (leb-true _ _ r) (counted-on m));
       job = λ job. (refl, job-first job);
       sheet = sheet-call;
     }

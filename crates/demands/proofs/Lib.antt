@@ -1,4 +1,4 @@
--- The three demands as theorems, of calls by their contracts, and the starred cases.
+-- The three demands and the requests since as theorems, of calls by their contracts, and the starred cases.
 mod Passing
 mod Ones
 mod Rows
@@ -7,6 +7,7 @@ pub mod Blocks
 pub mod Demand1
 pub mod Demand2
 pub mod Demand3
+pub mod Correction
 pub mod Day
 pub mod Starred
 pub mod Exports

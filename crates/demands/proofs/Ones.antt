@@ -5,7 +5,7 @@ use mathlib.Core.Bool.{true, _&&_}
 use mathlib.Core.List.{List, [], _∷_, List·Memᴰ as In, List·Memᴰ·head as here, List·Memᴰ·eq-of-singleton as in-single}
 use lib.Dec.{eqb}
 use lib.ListN.{length}
-use borrow.Author.Tests.{eqb-true, eq-eqb}
+use borrow.Author.Tests.{eqb-true, eq-eqb, leb-true, le-leb}
 use Rattle.basics.specs.declared.Answer.the-variants.{Done}
 use Rattle.basics.specs.Lists.{same}
 use Rattle.basics.proofs.Lists.{both-left, both-right, both-true, same-true, same-refl}
@@ -15,7 +15,9 @@ use Rattle.codewords.specs.Codewords.{the, agrees, message, functions, word, co
 use Rattle.codewords.specs.Demand3.{Systematic, Related}
 use Rattle.codewords.proofs.Tests.{any-true, true-any, filter-in, in-filter}
 use Rattle.codewords.proofs.Demand2.{demand2}
+use Rattle.decoding.specs.Near.{distance, radius, within, near, correctable, corrected}
 use Rattle.demands.specs.Demand3.{OneWord, OneFunction, OneRelation}
+use Rattle.demands.specs.Correction.{Within}
 
 module _ {A : Type 0} {a : A} {l : List A} (e : l ≡ a ∷ []) where
   -- the entry stands in the list, and nothing else does
@@ -61,6 +63,27 @@ module _ (code : Code) (J msg : List ℕ) where
       let (w, i, a) = any-true (λ w. agrees w J msg) (codewords code) h in
       let none : In w [] = subst (λ l. In w l) e (in-filter (λ w. agrees w J msg) i a) in
       elim none [ ]
+
+-- the codewords within t: those that are listed, and the one that is given
+module _ (code : Code) (r : List ℕ) where
+  in-within : {w : List ℕ} → In w (codewords code) → within code r w ≡ true → Within code r w
+  unfolding within
+  in-within {w} i t = record { is-codeword = in-codeword code i; close = leb-true (distance w r) (radius code) t }
+
+  pub within-near : {w : List ℕ} → Within code r w → In w (near code r)
+  unfolding within near
+  within-near {w} h = in-filter (within code r) (codeword-in code w (h .is-codeword)) (le-leb (distance w r) (radius code) (h .close))
+
+  pub within-correctable : {w : List ℕ} → Within code r w → correctable code r ≡ true
+  unfolding near correctable
+  within-correctable h = let (i, t) = filter-in (within code r) (codewords code) (within-near h) in true-any (within code r) i t
+
+  pub the-within : correctable code r ≡ true → Within code r (corrected code r)
+  unfolding near correctable corrected
+  the-within h =
+      let (v, j, s) = any-true (within code r) (codewords code) h in
+      let (i, t) = filter-in (within code r) (codewords code) (the-in (near code r) (λ e. elim (subst (λ l. In v l) e (in-filter (within code r) j s)) [ ])) in
+      in-within i t
 
 module _ (code : Code) (done : codeAnswer code ≡ Done) where
   pub in-message : {f : List ℕ} → In f (functions code) → message code f ≡ true

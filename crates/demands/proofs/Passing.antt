@@ -2,7 +2,7 @@
 use Prim.Native.Nat.{ℕ, suc, _-_, _≤_}
 use mathlib.Core.Path.{_≡_, refl, subst}
 use mathlib.Core.Bool.{Bool, true, false}
-use mathlib.Core.Logic.{_↔_}
+use mathlib.Core.Logic.{inl, inr, _⊎_, _↔_}
 use mathlib.Core.List.{List, Memᴰ·map as in-map, Memᴰ·cast as in-as}
 use native.Mathlib.Omega.{arith}
 use lib.Dec.{eqb}
@@ -76,6 +76,13 @@ pub decided : {M : Type 0} {e : Refusal} (b : Bool) {l : M} {r : Answer} {old ne
 unfolding check answer left
 decided true m = record { refuses = (λ h. cc, λ h. cc); done = (λ h. refl, λ h. m .answers); gives = λ h. m .leaves }
 decided false m = record { refuses = (λ h. refl, λ h. m .answers); done = (λ h. cc, λ h. cc); gives = λ h. cc }
+
+-- the same of what is counted
+pub decides : {M : Type 0} {e : Refusal} (b : Bool) {k : ℕ} {l : M} {r : Answer} {old new : M} → Meets (check b e (counted k l)) r old new
+    → ((b ≡ true) × (r ≡ Counted k) × (new ≡ l)) ⊎ ((b ≡ false) × (r ≡ Refused e))
+unfolding check answer left
+decides true m = inl (refl, m .answers, m .leaves)
+decides false m = inr (refl, m .answers)
 
 -- no test is left
 pub accepted-on : {M : Type 0} {l : M} {r : Answer} {old new : M} → Meets (accepted l) r old new → (r ≡ Done) × (new ≡ l)

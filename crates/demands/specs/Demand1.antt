@@ -25,11 +25,13 @@ use Rattle.blocks.specs.Outcomes.{plainOutcome, packBlockOutcome, unpackBlockOu
 use Rattle.solving.specs.Tests.{Lent, room}
 use Rattle.coder.specs.Outcomes.{joined}
 use Rattle.coder.specs.Outcomes.{recoverOutcome, systematicFunctionOutcome, systematicWordOutcome, matrixOutcome, relationOutcome, pickOutcome, rebuildOutcome}
+use Rattle.decoding.specs.Near.{distance, corrected}
+use Rattle.correction.specs.Outcomes.{correctOutcome}
 use Rattle.text.specs.Reading.{Sheet}
 use Rattle.sheet.specs.Job.{codeFor, jobOutcome, answerTo, Answers as AnswersSheet}
 use Rattle.demands.specs.Call.{Call, Of}
 use Rattle.demands.specs.Order.{Test, first, numbers, pointsTests, meansTests, plainTests, packTests, unpackTests, heardTests}
-use Rattle.demands.specs.Order.{recoverTests, systematicTests, matrixTests, relationTests, pickTests, rebuildTests, jobTests, sheetTests}
+use Rattle.demands.specs.Order.{recoverTests, systematicTests, matrixTests, relationTests, pickTests, rebuildTests, correctTests, jobTests, sheetTests}
 
 -- the answer r, with lent memory from old to new, of a call that has the tests ts, whose numbers are ns
 pub record Answers {M : Type 0} (ns : List ℕ) (ts : List Test) (r : Answer) (old new : M) (whole : Type 0) : Type 0 where
@@ -38,9 +40,9 @@ pub record Answers {M : Type 0} (ns : List ℕ) (ts : List Test) (r : Answer) (o
   pub unchanged : (e : Refusal) → r ≡ Refused e → new ≡ old
   pub accepted : first ts ≡ Done → whole
 
--- an output that is written whole: what it holds is l, whatever was there
-pub record Filled {A : Type 0} (l : List A) (r : Answer) (old new : List A) : Type 0 where
-  pub done : r ≡ Done
+-- an output that is written whole: what it holds is l, whatever was there, and the answer is a
+pub record Filled {A : Type 0} (a : Answer) (l : List A) (r : Answer) (old new : List A) : Type 0 where
+  pub done : r ≡ a
   pub written : new ≡ l
   pub whole : length l ≡ length old
 
@@ -52,18 +54,21 @@ pub record Listed (l : List ℕ) (r : Answer) (old new : List ℕ) : Type 0 wher
   pub whole : length new ≡ length old
 
 -- an output that is written whole, and a working space whose first 8,192 bytes are zero and the rest untouched
-pub record Worked (l : List ℕ) (c : Call) : Type 0 where
-  pub output : Filled l (c .answer) (c .out) (c .out-after)
+pub record Worked (a : Answer) (l : List ℕ) (c : Call) : Type 0 where
+  pub output : Filled a l (c .answer) (c .out) (c .out-after)
   pub zeros : take room (c .work-after) ≡ replicate room 0
   pub untouched : drop room (c .work-after) ≡ drop room (c .work)
   pub whole : length (c .work-after) ≡ length (c .work)
 
--- of an operation that is lent one list, and of one that is lent a working space too
+-- of an operation that is lent one list, and of one that is lent a working space too, with the answer of accepted calls
 abbrev pub Fills : {A : Type 0} → List ℕ → List Test → List A → Answer → List A → List A → Type 0
-Fills ns ts l r old new = Answers ns ts r old new (Filled l r old new)
+Fills ns ts l r old new = Answers ns ts r old new (Filled Done l r old new)
+
+abbrev pub WorksWith : Answer → List ℕ → List Test → List ℕ → Call → Type 0
+WorksWith a ns ts l c = Answers {M = Lent} ns ts (c .answer) (c .out, c .work) (c .out-after, c .work-after) (Worked a l c)
 
 abbrev pub Works : List ℕ → List Test → List ℕ → Call → Type 0
-Works ns ts l c = Answers {M = Lent} ns ts (c .answer) (c .out, c .work) (c .out-after, c .work-after) (Worked l c)
+Works = WorksWith Done
 
 abbrev codeNumbers : List ℕ
 codeNumbers = 1 ∷ 2 ∷ 3 ∷ 4 ∷ 5 ∷ 6 ∷ 7 ∷ []
@@ -104,6 +109,9 @@ pub record Demand1 : Type 0 where
       → Works (codeNumbers ++ 8 ∷ 8 ∷ 8 ∷ 9 ∷ 10 ∷ 13 ∷ 12 ∷ []) (pickTests code J (c .out) (c .work)) (pick code J) c
   pub rebuild : (code : Code) (J us : List ℕ) (c : Call) → Of (rebuildOutcome code J us) c
       → Works (codeNumbers ++ 8 ∷ 8 ∷ 8 ∷ 8 ∷ 9 ∷ 10 ∷ 11 ∷ 13 ∷ 12 ∷ 14 ∷ []) (rebuildTests code J us (c .out) (c .work)) (systematicWord code J us) c
+  -- Correct, with "the count of places changed"
+  pub correct : (code : Code) (w : List ℕ) (c : Call) → Of (correctOutcome code w) c
+      → WorksWith (Counted (distance (corrected code w) w)) (codeNumbers ++ 8 ∷ 8 ∷ 8 ∷ 11 ∷ 21 ∷ []) (correctTests code w (c .out) (c .work)) (corrected code w) c
   -- the job sheet: its answer's number, and the text in the lent buffer
   pub job : (job : Sheet) → let ts = jobTests (codeFor (job .head)) (job .places) (job .message) in
       (numbers ts ≡ codeNumbers ++ 8 ∷ 8 ∷ 9 ∷ 10 ∷ 11 ∷ 12 ∷ []) × (answer (jobOutcome job) ≡ first ts)

@@ -1,9 +1,10 @@
--- The three demands, as statements about calls of the operations.
+-- The three demands and the requests since, as statements about calls of the operations.
 pub mod Call
 pub mod Order
 pub mod Demand1
 pub mod Demand2
 pub mod Demand3
+pub mod Correction
 pub mod Blocks
 pub mod Day
 pub mod Starred

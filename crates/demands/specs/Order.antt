@@ -1,4 +1,4 @@
--- Document 01's tests of each operation, in its order. A test stands with the refusal where it fails; the code's tests come first.
+-- The tests of each operation, in the order of documents 01 and 02. A test stands with the refusal where it fails; the code's tests come first.
 use Prim.Native.Nat.{ℕ, _*_}
 use mathlib.Core.Bool.{Bool, not, cond, _&&_}
 use mathlib.Core.List.{List, [], _∷_, _++_, map}
@@ -8,7 +8,7 @@ use lib.ListN.{length}
 use Rattle.basics.specs.declared.Refusal.{Refusal}
 use Rattle.basics.specs.declared.Refusal.the-variants.{FieldNumber, CurveCoefficient, Singular, PointCount, OffCurve, RepeatedPoint, Dimension}
 use Rattle.basics.specs.declared.Refusal.the-variants.{Length, Place, RepeatedPlace, Symbol, Dependent, TooFew, NoCodeword, Independent}
-use Rattle.basics.specs.declared.Refusal.the-variants.{Reading, NeverPacked, StampOrder, Hour}
+use Rattle.basics.specs.declared.Refusal.the-variants.{Reading, NeverPacked, StampOrder, Hour, TooFar}
 use Rattle.basics.specs.declared.Answer.{Answer}
 use Rattle.basics.specs.declared.Answer.the-variants.{Done, Refused}
 use Rattle.basics.specs.Bits.{isWord}
@@ -26,6 +26,7 @@ use Rattle.hours.specs.Means.{increasing, inHours, inRange}
 use Rattle.hours.specs.Packing.{capacity, valid, clean}
 use Rattle.sheet.specs.Job.{room as sheetRoom}
 use Rattle.solving.specs.Tests.{room}
+use Rattle.decoding.specs.Near.{correctable}
 
 pub record Test : Type 0 where
   pub holds : Bool
@@ -118,6 +119,10 @@ module _ (code : Code) where
   rebuildTests J us out work =
       codeTests ++ test (leb (length J) (n code)) Length ∷ lengthTest us (length J) ∷ lentTests (n code) out work ++ placeTests J
       ++ symbolTest us ∷ enoughTests J ++ test (agreed code J us) NoCodeword ∷ []
+
+  -- Correct: "21, after code, 8 and 11"
+  abbrev pub correctTests : List ℕ → List ℕ → List ℕ → List Test
+  correctTests r out work = codeTests ++ lengthTest r (n code) ∷ lentTests (n code) out work ++ symbolTest r ∷ test (correctable code r) TooFar ∷ []
 
   -- the job of a sheet: Systematic function and Systematic word in one, without lent lists
   abbrev pub jobTests : List ℕ → List ℕ → List Test

@@ -105,11 +105,26 @@ pub fn choice(kind: &Kind, code: &OwnCode, random: &mut Random) -> Vec<u16> {
     choice
 }
 
+/// Any codeword.
+fn word(kind: &Kind, code: &OwnCode, random: &mut Random) -> Vec<u8> {
+    let mut word = vec![0; kind.n];
+    fast::plain(&code.code(), &random.symbols(kind.field, kind.k), &mut word).unwrap();
+    word
+}
+
+/// A word with so many symbols changed.
+pub fn wrong_word(kind: &Kind, code: &OwnCode, errors: usize, random: &mut Random) -> Vec<u8> {
+    let mut word = word(kind, code, random);
+    let mut indices: Vec<usize> = (0..kind.n).collect();
+    random.shuffle(&mut indices);
+    indices[..errors].iter().for_each(|&i| word[i] ^= random.between(1, (1 << kind.field) - 1) as u8);
+    word
+}
+
 /// Places that are heard, and the symbols of a word there.
 pub fn heard_word(kind: &Kind, code: &OwnCode, random: &mut Random) -> (Vec<u16>, Vec<u8>) {
     let heard = heard(kind, random);
-    let mut word = vec![0; kind.n];
-    fast::plain(&code.code(), &random.symbols(kind.field, kind.k), &mut word).unwrap();
+    let word = word(kind, code, random);
     let symbols = heard.iter().map(|&p| word[p as usize - 1]).collect();
     (heard, symbols)
 }

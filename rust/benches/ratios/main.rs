@@ -119,6 +119,22 @@ fn places(bench: &Bench, kind: Kind, bar: f64, bar_of_pick: f64) {
     );
 }
 
+/// With as many wrong symbols as can be put right, beside elimination for the places that are right, and another for the word.
+fn correct(bench: &Bench, kind: Kind, bar: Option<f64>) {
+    let (mut work, mut work_too) = (vec![0; WORKING_SPACE], vec![0; WORKING_SPACE]);
+    let errors = (kind.n - kind.k - 2) / 2;
+    bench.compare(
+        Row::new(format!("{}, {errors} errors", kind.named("correct")), kind.inputs).bar(bar),
+        kind.n,
+        |random| {
+            let code = inputs::code(&kind, random);
+            (inputs::wrong_word(&kind, &code, errors, random), code)
+        },
+        |(received, code), out| vakhudle::correct(&code.code(), received, out, &mut work),
+        |(received, code), out| fast::correct(&code.code(), received, out, &mut work_too),
+    );
+}
+
 /// Beside one elimination of the k by n generator matrix. Answers our time for a symbol.
 fn matrix(bench: &Bench, kind: Kind, bar: Option<f64>) -> Option<f64> {
     let (mut work, mut work_too) = (vec![0; WORKING_SPACE], vec![0; WORKING_SPACE]);
@@ -164,6 +180,8 @@ fn main() {
     means(&bench);
     places(&bench, small, 8.0, 20.0);
     places(&bench, large, 20.0, 50.0);
+    correct(&bench, small, Some(8.0));
+    correct(&bench, large, None);
     matrix(&bench, small, Some(8.0));
     let grows: Vec<_> = [50, 100, 200].map(|k| (k, matrix(&bench, Kind { k, ..large }, (k == 200).then_some(15.0)))).into();
     bench.empty();

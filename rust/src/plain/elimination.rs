@@ -3,8 +3,20 @@ use super::fast::{check, value};
 use super::field::{Field, LOG_OF_ZERO};
 use crate::{Answer, Code, MOST_POINTS, WORKING_SPACE};
 
+/// The values at (x, y) of as many monomials as the row is long.
+pub(super) fn monomials(field: &Field, x: u8, y: u8, row: &mut [u8]) {
+    for i in 0..row.len() {
+        row[i] = match i {
+            0 => 1,
+            1 => x,
+            2 => y,
+            _ => field.product(x, row[i - 2]),
+        };
+    }
+}
+
 /// Equations in k unknowns in row echelon form. A row is k factors and the right side as logarithms, and begins with 1 at its pivot.
-struct Echelon<'a> {
+pub(super) struct Echelon<'a> {
     field: &'a Field,
     k: usize,
     rows: Vec<u16>,
@@ -12,7 +24,7 @@ struct Echelon<'a> {
 }
 
 impl<'a> Echelon<'a> {
-    fn new(field: &'a Field, k: usize) -> Self {
+    pub(super) fn new(field: &'a Field, k: usize) -> Self {
         Echelon { field, k, rows: Vec::with_capacity(k * (k + 1)), pivots: Vec::with_capacity(k) }
     }
 
@@ -21,14 +33,7 @@ impl<'a> Echelon<'a> {
         let (field, k) = (self.field, self.k);
         let mut row = [0u8; MOST_POINTS];
         let row = &mut row[..k + 1];
-        for i in 0..k {
-            row[i] = match i {
-                0 => 1,
-                1 => x,
-                2 => y,
-                _ => field.product(x, row[i - 2]),
-            };
-        }
+        monomials(field, x, y, &mut row[..k]);
         row[k] = symbol;
         for (other, &pivot) in self.rows.chunks_exact(k + 1).zip(&self.pivots) {
             field.add_multiple(row[pivot], &other[pivot..], &mut row[pivot..]);
@@ -43,7 +48,7 @@ impl<'a> Echelon<'a> {
     }
 
     /// Takes places in turn until k equations are independent; answers the unknowns, or `None` if the places don't do.
-    fn solve(&mut self, code: &Code, places: &[u16], symbols: &[u8]) -> Option<[u8; MOST_POINTS]> {
+    pub(super) fn solve(&mut self, code: &Code, places: &[u16], symbols: &[u8]) -> Option<[u8; MOST_POINTS]> {
         let (field, k) = (self.field, self.k);
         for (&p, &symbol) in places.iter().zip(symbols) {
             if self.pivots.len() < k {

@@ -1,7 +1,8 @@
 //! The same in plain Rust. `field`, `curve`, `code`, `places`, `hours` and `sheet` follow the definitions as simply as they can, for tests to compare with;
-//! `fast` and `elimination` are what one would write for speed, for benchmarks to compare with.
+//! `fast`, `elimination` and `decoding` are what one would write for speed, for benchmarks to compare with.
 pub mod code;
 pub mod curve;
+mod decoding;
 mod elimination;
 pub mod fast;
 pub mod field;

@@ -1,6 +1,7 @@
 //! The operations on chosen places, by linear equations: a function's symbol at a place is the sum of its k coefficients, each times the value of
 //! its monomial there.
 use super::code::{check, monomial, value};
+use super::curve::elements;
 use super::field::{power, product};
 use crate::{Answer, Code, WORKING_SPACE};
 
@@ -233,4 +234,38 @@ pub fn rebuild(code: &Code, places: &[u16], symbols: &[u8], symbols_out: &mut [u
         return Err(13);
     }
     accept(&word(code, &function(code, places, symbols)?), symbols_out, work)
+}
+
+/// How many wrong symbols are put right.
+pub fn radius(code: &Code) -> usize {
+    (code.xs.len() - code.k).saturating_sub(2) / 2
+}
+
+/// At how many places two words differ.
+pub fn distance(word: &[u8], other: &[u8]) -> usize {
+    word.iter().zip(other).filter(|(a, b)| a != b).count()
+}
+
+/// All codewords: the multiples of one monomial after the other are added to those found so far.
+fn codewords(code: &Code) -> Vec<Vec<u8>> {
+    let (field, n) = (code.field, code.xs.len());
+    (0..code.k).fold(vec![vec![0; n]], |words, j| {
+        let row: Vec<u8> = (0..n).map(|i| monomial(field, j, code.xs[i], code.ys[i])).collect();
+        let sum = |word: &[u8], c| word.iter().zip(&row).map(|(&s, &b)| s ^ product(field, c, b)).collect();
+        words.iter().flat_map(|word| elements(field).map(move |c| sum(word, c))).collect()
+    })
+}
+
+/// By search of all codewords, so for small codes only.
+pub fn correct(code: &Code, received: &[u8], symbols_out: &mut [u8], work: &mut [u8]) -> Answer {
+    check(code)?;
+    if [received.len(), symbols_out.len()] != [code.xs.len(); 2] || work.len() < WORKING_SPACE {
+        return Err(8);
+    }
+    check_symbols(code, received)?;
+    let near: Vec<Vec<u8>> = codewords(code).into_iter().filter(|word| distance(word, received) <= radius(code)).collect();
+    assert!(near.len() <= 1, "two codewords are near");
+    let word = near.first().ok_or(21)?;
+    accept(word, symbols_out, work)?;
+    Ok(distance(word, received) as u32)
 }

@@ -99,7 +99,7 @@ pub fn lengths_of_the_working_space<O: Operation>() {
 /// Whatever the bytes are, the answer is the definition's.
 pub fn bytes_at_random<O: Operation>() {
     let random = &mut Random(72);
-    let mut answers = [0; 16];
+    let mut answers = [0; 22];
     for _ in 0..20_000 {
         let mut code = OwnCode::random(2, random);
         if random.once_in(3) {

@@ -9,7 +9,7 @@ use vakhudle::{Answer, Code, WORKING_SPACE};
 /// An implementation of an operation on a code: places, symbols, the output, the working space.
 pub type Run<T> = fn(&Code, &[u16], &[u8], &mut [T], &mut [u8]) -> Answer;
 
-/// One of the seven operations.
+/// One of the operations that are lent a working space.
 pub trait Operation: Clone + Debug {
     type Out: Filler + 'static;
     /// The refusals in the order in which they are sought.
@@ -69,6 +69,17 @@ operations! {
             |code, ranked, _, out, work| fast::pick(code, ranked, out, work),
         ];
     Rebuild: u8, [1, 2, 3, 4, 5, 6, 7, 8, 9, 10, 11, 13, 12, 14], OwnCode::n, [vakhudle::rebuild, simple::rebuild, fast::rebuild];
+    Correct: u8, [1, 2, 3, 4, 5, 6, 7, 8, 11, 21], OwnCode::n,
+        [
+            |code, _, received, out, work| vakhudle::correct(code, received, out, work),
+            |code, _, received, out, work| fast::correct(code, received, out, work),
+            |code, _, received, out, work| if has_few_words(code) { simple::correct } else { fast::correct }(code, received, out, work),
+        ];
+}
+
+/// Whether all codewords can be searched.
+fn has_few_words(code: &Code) -> bool {
+    code.k <= 6 && code.k * code.field as usize <= 12
 }
 
 /// A call of an operation. Those that take no places, or no symbols, leave these lists empty.
@@ -145,6 +156,15 @@ impl<O: Operation> Job<O> {
         }
         false
     }
+
+    /// Changes one symbol more than can be put right, so that no codeword is near. Where n − k is 1 the word may still be a codeword.
+    fn stray(&mut self, random: &mut Random) -> bool {
+        let (code, work) = (self.code.code(), &mut [0; WORKING_SPACE]);
+        let mut word = vec![0; self.code.n()];
+        fast::correct(&code, &self.symbols, &mut word, work).unwrap();
+        self.symbols = with_errors(&self.code, &word, &some_places(self.code.n(), simple::radius(&code) + 1, random), random);
+        self.code.n() - code.k > 1 || simple::recover(&code, &self.symbols, &mut word[..code.k], work).is_err()
+    }
 }
 
 impl<O: Operation> Job<O> {
@@ -210,6 +230,7 @@ impl<O: Operation> Call for Job<O> {
             14 => return self.contradict(random),
             // any k − 1 places of a dependent choice and one more are usable
             15 => self.places[k - 1] = another(&self.places, n, random),
+            21 => return self.stray(random),
             number => return self.code.spoil(number, random),
         }
         true
@@ -258,6 +279,15 @@ pub fn word_of(code: &OwnCode, places: &[u16], message: &[u8]) -> Vec<u8> {
     let mut word = vec![0; code.n()];
     simple::systematic_word(&code.code(), places, message, &mut word, &mut [0; WORKING_SPACE]).unwrap();
     word
+}
+
+/// The word with another symbol at each of these places.
+pub fn with_errors(code: &OwnCode, word: &[u8], places: &[u16], random: &mut Random) -> Vec<u8> {
+    let mut received = word.to_vec();
+    for &p in places {
+        received[p as usize - 1] ^= random.between(1, code.size() as i64 - 1) as u8;
+    }
+    received
 }
 
 pub fn symbols_at(word: &[u8], places: &[u16]) -> Vec<u8> {
