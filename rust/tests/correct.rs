@@ -239,6 +239,37 @@ fn spoilt_calls_with_errors() {
     }
 }
 
+/// All lists and buffers in one block, with bytes between them: an accepted call writes its output and the room for work, a refused one nothing.
+#[test]
+fn one_block_of_memory() {
+    let random = &mut Random(89);
+    let code = daily();
+    let (n, gap) = (code.n(), 16);
+    for errors in 0..=radius(&code.code()) + 1 {
+        let word = any_word(&code, random);
+        let received = with_errors(&code, &word, &some_places(n, errors, random), random);
+        let mut block = random.symbols(8, 4 * (gap + n) + gap + WORKING_SPACE + gap);
+        for (i, list) in [&code.xs, &code.ys, &received].into_iter().enumerate() {
+            block[gap + i * (gap + n)..][..n].copy_from_slice(list);
+        }
+        let mut expected = block.clone();
+        let (lists, lent) = block.split_at_mut(3 * (gap + n) + gap);
+        let (out, work) = lent.split_at_mut(n + gap);
+        let list = |i: usize| &lists[gap + i * (gap + n)..][..n];
+        let side_by_side = Code { xs: list(0), ys: list(1), ..code.code() };
+        let answer = vakhudle::correct(&side_by_side, list(2), &mut out[..n], &mut work[..WORKING_SPACE]);
+        if errors > radius(&code.code()) {
+            assert_eq!(answer, Err(21));
+        } else {
+            assert_eq!(answer, Ok(errors as u32));
+            let lent = &mut expected[3 * (gap + n) + gap..];
+            lent[..n].copy_from_slice(&word);
+            lent[n + gap..][..WORKING_SPACE].fill(0);
+        }
+        assert_eq!(block, expected);
+    }
+}
+
 #[test]
 fn known_cases() {
     let random = &mut Random(74);
