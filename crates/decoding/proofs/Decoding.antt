@@ -18,9 +18,8 @@ use Rattle.codewords.specs.Codewords.{the, place, symbolAt, pointAt, agrees, wo
 use Rattle.codewords.specs.Computed.{pointsOf, solution}
 use Rattle.codewords.proofs.Tests.{any-true, true-any, filter-in, in-filter}
 use Rattle.codewords.proofs.Counting.{only, unique-filter}
-use Rattle.codewords.proofs.Accepted.{Accepted, laws, accepted-done}
-use Rattle.codewords.proofs.Coefficients.{coefficients-listed}
-use Rattle.codewords.proofs.Places.{Places, all-at, symbols-true, true-message}
+use Rattle.codewords.proofs.Accepted.{Accepted, accepted-done}
+use Rattle.codewords.proofs.Places.{Places, all-at, symbols-true}
 use Rattle.codewords.proofs.Words.{Function, in-functions, unique-codewords}
 use Rattle.codewords.proofs.Choice.{TakesAt, in-agreeing}
 use Rattle.codewords.proofs.Solving.{solved-function, solved-agreeing}
@@ -145,5 +144,4 @@ decoding code done =
       one-near = λ r size. one-near code a r size;
       correctable-by = λ r s size. accepts code a r (symbols-true code r s) size;
       corrected-by = λ r s size c. gives code a r (symbols-true code r s) size c;
-      decoded-coefficients = λ r s size d. true-message code (coefficients-listed (laws code a) (decodes-function code a r (symbols-true code r s) size d));
     }

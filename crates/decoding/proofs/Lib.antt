@@ -6,7 +6,6 @@ pub mod Reduction
 pub mod Least
 pub mod Start
 pub mod Steps
-pub mod Shapes
 pub mod Product
 pub mod Distance
 pub mod Spots

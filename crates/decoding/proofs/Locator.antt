@@ -18,11 +18,10 @@ use Rattle.elliptic.specs.declared.Point.{Point}
 use Rattle.elliptic.specs.Curve.{point}
 use Rattle.elliptic.specs.Functions.{weight}
 use Rattle.elliptic.specs.Pair.{evaluate, addScaled}
-use Rattle.elliptic.proofs.Points.{Points, All, All.nil, All.cons, all-map, all-of}
+use Rattle.elliptic.proofs.Points.{Points, All, All.nil, All.cons, all-of}
 use Rattle.elliptic.proofs.Function.{Under, Zero, under-add, evaluate-add, evaluate-lt}
-use Rattle.elliptic.proofs.Padding.{Zeros, Trimmed, trim, evaluate-pad}
-use Rattle.elliptic.proofs.Kernel.{few}
-use Rattle.elliptic.proofs.Descent.{Through}
+use Rattle.elliptic.proofs.Padding.{Zeros, Trimmed, trim}
+use Rattle.elliptic.proofs.Kernel.{few, through}
 use Rattle.elliptic.proofs.Zeros.{zeros}
 use Rattle.elliptic.proofs.Pair.{place as pointOf}
 use Rattle.codewords.specs.Code.{Code, arithmetic, q, n, points}
@@ -45,15 +44,7 @@ zeros-most {F} K {C} {J} p m {f} u n z = by (trim K u)
   where
     by : Zeros f ⊎ Trimmed F (suc m) f → length J ≤ weight m
     by (inl e) = absurd (n e)
-    by (inr t) =
-        let through : Through F J (t .n) (t .g) =
-        record {
-          l = t .l;
-          nonzero = t .nonzero;
-          lead = t .lead;
-          zeros = all-map (λ P e. sym (evaluate-pad K (t .g) (t .m) P) ∙ ap (λ f. evaluate F f P) (sym (t .same)) ∙ e) z;
-        } in
-        omega (arith, zeros K p through, weight-mono (t .n) m (omega (arith, t .fits)))
+    by (inr t) = omega (arith, zeros K p (through K p t z), weight-mono (t .n) m (omega (arith, t .fits)))
 
 zeros-get : {f : List ℕ} → Zeros f → (i : ℕ) → getD f i 0 ≡ 0
 zeros-get nil i = refl

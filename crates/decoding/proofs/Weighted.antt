@@ -15,7 +15,7 @@ use Rattle.elliptic.specs.Functions.{weight}
 use Rattle.elliptic.specs.Pair.{horner, evaluate, addScaled, shifted, timesLinear}
 use Rattle.elliptic.proofs.Weights.{weight-le}
 use Rattle.elliptic.proofs.Function.{Under, Under.none, Under.more, Zero, evaluate-add}
-use Rattle.elliptic.proofs.Products.{timesX, evaluate-x}
+use Rattle.elliptic.proofs.Products.{timesX, evaluate-x, length-linear}
 
 -- the coefficient of weight w: no monomial weighs 1
 unfoldable pub coef : List ℕ → ℕ → ℕ
@@ -68,16 +68,6 @@ coef-one f = refl
 module _ (F : Arithmetic) where
   infixl 70 _·_
   open Arithmetic F using (_·_)
-
-  length-shifted : (α a b : ℕ) (cs : List ℕ) → length (shifted F α a b cs) ≡ length cs
-  unfolding shifted
-  length-shifted α a b [] = refl
-  length-shifted α a b (c ∷ cs) = ap suc (length-shifted α b c cs)
-
-  pub length-linear : (α : ℕ) (f : List ℕ) → length (timesLinear F α f) ≡ length f
-  unfolding timesLinear
-  length-linear α [] = refl
-  length-linear α (c ∷ cs) = ap suc (length-shifted α c 0 cs)
 
   get-shifted : (α a b : ℕ) (cs : List ℕ) (i : ℕ) → i < length cs → getD (shifted F α a b cs) i 0 ≡ getD (a ∷ b ∷ cs) i 0 ⊕ α · getD cs i 0
   unfolding shifted

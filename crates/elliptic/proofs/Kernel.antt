@@ -95,7 +95,7 @@ module _ {F : Arithmetic} (K : Field F) where
   nowhere P = refl
 
   module _ {C : Curve} {J : List Point} (p : Points F C J) where
-    through : {k : ℕ} {f : List ℕ} (t : Trimmed F k f) → All (Zero F f) J → Through F J (t .n) (t .g)
+    pub through : {k : ℕ} {f : List ℕ} (t : Trimmed F k f) → All (Zero F f) J → Through F J (t .n) (t .g)
     through t z =
         record {
           l = t .l;

@@ -30,7 +30,7 @@ module _ (F : Arithmetic) where
   length-shifted α a b [] = refl
   length-shifted α a b (c ∷ cs) = ap suc (length-shifted α b c cs)
 
-  length-linear : (α : ℕ) (f : List ℕ) → length (timesLinear F α f) ≡ length f
+  pub length-linear : (α : ℕ) (f : List ℕ) → length (timesLinear F α f) ≡ length f
   unfolding timesLinear
   length-linear α [] = refl
   length-linear α (c ∷ cs) = ap suc (length-shifted α c 0 cs)

@@ -16,7 +16,8 @@ use Rattle.field.proofs.Field.{ring, ·-zero}
 use Rattle.field.proofs.Galois.{galois-field}
 use Rattle.elliptic.specs.Pair.{addScaled, shifted, timesLinear}
 use Rattle.elliptic.proofs.Function.{length-add}
-use Rattle.decoding.proofs.Weighted.{get-add, length-linear}
+use Rattle.elliptic.proofs.Products.{length-linear}
+use Rattle.decoding.proofs.Weighted.{get-add}
 use Rattle.locator.specs.Arrays.{denIn, longer, shorter, Behind, Widened, MixesDen, LiftsDen}
 
 -- ---- how many coefficients

@@ -15,6 +15,7 @@ use Rattle.values.specs.Values.{gainedAt}
 use Rattle.decoding.specs.Rows.{Row, top, lifted, mixed}
 use Rattle.decoding.proofs.Elements.{defect-mixed}
 use Rattle.locator.specs.Arrays.{Head, Heads, Layout, Multiples, longer, denIn, head, defectAt, MixesDen, LiftsDen, Live, Holds, Lifts, From, liftedAt, Cancels, DensTurn, TurnRoom, Turns}
+use Rattle.locator.proofs.Dens.{longer-most}
 
 -- the front of an array is decided by its elements
 take-same : (s : ℕ) (a b : List ℕ) → length a ≡ length b → ((j : ℕ) → j < s → getD a j 0 ≡ getD b j 0) → take s a ≡ take s b
@@ -26,13 +27,6 @@ take-same (suc s) (x ∷ a) (y ∷ b) e h = ap₂ _∷_ (h 0 (omega arith)) (tak
 
 den-same : (room s d : ℕ) {rule : ℕ → ℕ} {a b : List ℕ} → s ≤ d → From d rule a b → denIn room s b ≡ denIn room s a
 den-same room s d {a = a} {b = b} h f = ap (λ l. l ++ replicate (room - s) 0) (take-same s b a (f .size) (λ j l. f .before j (omega arith)))
-
-longer-le : (a b c : ℕ) → a ≤ c → b ≤ c → longer a b ≤ c
-longer-le a b c h l =
-    elim (decLt a b) [
-      | yes g ↦ rw (lt-ltb a b g) l
-      | no g ↦ rw (le-ltb a b (omega arith)) h
-    ]
 
 -- E and the defects to come stay apart
 apart : (t i s : ℕ) → t ≤ 142 → s ≤ suc t → s ≤ suc i + suc i + 3 → s ≤ head + suc i
@@ -56,10 +50,10 @@ module _ {m : ℕ} (k t : ℕ) (field : IsField m) (xs ys us : List ℕ) (i : �
         }
       where
         most : h′ .size ≤ suc t
-        most = rw (es, mix .size-is) (longer-le (h .size) (hp .size) (suc t) (g .most) (hold .most))
+        most = rw (es, mix .size-is) (longer-most (h .size) (hp .size) (suc t) (g .most) (hold .most))
 
         slow : h′ .size ≤ suc i + suc i + 3
-        slow = rw (es, mix .size-is) (longer-le (h .size) (hp .size) (suc i + suc i + 3) (omega (arith, g .slow)) (omega (arith, hold .slow)))
+        slow = rw (es, mix .size-is) (longer-most (h .size) (hp .size) (suc i + suc i + 3) (omega (arith, g .slow)) (omega (arith, hold .slow)))
 
         live : Live m t xs ys us i (h .size) a v → Live m t xs ys us (suc i) (h′ .size) a₂ (mixed (galois m) (product m (defectAt m xs ys us v i) (inverse m (defectAt m xs ys us w i))) w v)
         live x =
