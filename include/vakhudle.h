@@ -48,9 +48,10 @@ int32_t vakhudle_points(uint8_t field, uint8_t g1, uint8_t g2, uint8_t g3, uint8
 /* The mean of an hour with fewer than 45 readings. */
 #define VAKHUDLE_ABSENT 32767
 
-/* The means of means_out_len hours, at most 153, from the hour first on. Stamps are minutes, ascending; a reading belongs to hour stamp div 60.
- * Readings and means are tenths of a degree, -2,000 to 20,000; halves are rounded away from zero. Refuses 8, 19 (first above 71,000,000), 18, 19
- * (a stamp outside the hours), 16, each sought over the whole list before the next. */
+/* The means of means_out_len hours, at most 153, from the hour first on. Stamps are minutes, ascending, and name the
+ * minute's end: hour h holds stamps 60h + 1 to 60h + 60, and stamp 0 is in no hour. Readings and means are tenths of a degree, -2,000 to 20,000; halves
+ * are rounded away from zero. Refuses 8, 19 (first above 71,000,000), 18, 19 (a stamp outside the hours), 16, each sought over the whole list before
+ * the next. */
 int32_t vakhudle_means(const uint32_t *stamps, size_t stamps_len, const int16_t *readings, size_t readings_len, uint32_t first,
                        int16_t *means_out, size_t means_out_len);
 

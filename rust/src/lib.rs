@@ -63,7 +63,8 @@ pub fn sheet(text: &[u8], out: &mut [u8]) -> Answer {
     answer(unsafe { raw::vakhudle_sheet(text.as_ptr(), text.len(), out.as_mut_ptr(), out.len()) })
 }
 
-/// The mean of each hour from `first_hour` on, one for each entry of `means_out`: stamps in minutes, readings and means in tenths of a degree.
+/// The mean of each hour from `first_hour` on, one for each entry of `means_out`: readings and means in tenths of a degree, stamps in minutes, each of which
+/// names its minute's end. Hour h holds stamps 60 h + 1 to 60 h + 60, and stamp 0 is in no hour.
 pub fn means(stamps: &[u32], readings: &[i16], first_hour: u32, means_out: &mut [i16]) -> Answer {
     answer(unsafe {
         raw::vakhudle_means(stamps.as_ptr(), stamps.len(), readings.as_ptr(), readings.len(), first_hour, means_out.as_mut_ptr(), means_out.len())

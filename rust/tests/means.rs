@@ -36,7 +36,7 @@ impl Means {
                 4 => random.between(44, 60),
                 _ => random.between(0, 60),
             } as usize;
-            let mut minutes: Vec<u32> = (0..60).collect();
+            let mut minutes: Vec<u32> = (1..=60).collect();
             random.shuffle(&mut minutes);
             minutes.truncate(count);
             minutes.sort();
@@ -87,12 +87,13 @@ impl Call for Means {
                 };
             }
             3 if count == 0 => return false,
+            3 if self.first_hour == 0 && random.once_in(2) => self.stamps[0] = 0,
             3 if self.first_hour > 0 && random.once_in(2) => {
-                self.stamps[0] = random.pick(&[self.first_hour * 60 - 1, (self.first_hour - 1) * 60, 0]);
+                self.stamps[0] = random.pick(&[self.first_hour * 60, (self.first_hour - 1) * 60 + 1, 0]);
             }
             3 => {
                 let end = (self.first_hour + self.hours as u32) * 60;
-                self.stamps[count - 1] = random.pick(&[end, end + 1, end + 59, end + 60, u32::MAX]);
+                self.stamps[count - 1] = random.pick(&[end + 1, end + 2, end + 60, end + 61, u32::MAX]);
             }
             _ if count == 0 => return false,
             _ => self.readings[some] = random.pick(&[-2_001, 20_001, ABSENT, 32_766, i16::MIN]),
@@ -108,7 +109,7 @@ impl Call for Means {
 /// One hour whose readings sum to `sum`.
 fn one_hour(count: usize, sum: i64) -> Means {
     let readings = (0..count as i64).map(|i| (sum.div_euclid(count as i64) + (i < sum.rem_euclid(count as i64)) as i64) as i16).collect();
-    Means { stamps: (600..600 + count as u32).collect(), readings, first_hour: 10, hours: 1 }
+    Means { stamps: (601..=600 + count as u32).collect(), readings, first_hour: 10, hours: 1 }
 }
 
 #[test]
@@ -160,7 +161,7 @@ fn numbers_of_hours_and_first_hours() {
             // a full first or last hour
             if expected == Ok(0) && hours > 0 {
                 for hour in [0, hours as u32 - 1] {
-                    call.stamps = (0..60).map(|i| (first_hour + hour) * 60 + i).collect();
+                    call.stamps = (1..=60).map(|i| (first_hour + hour) * 60 + i).collect();
                     call.readings = vec![-7; 60];
                     let (answer, written) = call.result(&mut random);
                     assert_eq!((answer, written[hour as usize]), (Ok(0), -7));
@@ -171,21 +172,62 @@ fn numbers_of_hours_and_first_hours() {
     }
 }
 
-/// The first and last minutes of the hours, those just outside, and the last stamp of all.
+/// The first and last stamps of the hours, those just outside, and the last stamp of all: hour h holds 60 h + 1 to 60 h + 60, so stamp 0 is in none.
 #[test]
 fn stamps_at_the_ends() {
     let mut random = Random(45);
     for first_hour in [0, 1, 35_000_000, 71_000_000] {
         for hours in [0usize, 1, 2, 152, 153] {
             let (start, end) = (first_hour as u64 * 60, (first_hour as u64 + hours as u64) * 60);
-            for stamp in [0, 1, 59, 60, start.wrapping_sub(1), start, start + 1, end.wrapping_sub(1), end, end + 1, (1 << 32) - 60, (1 << 32) - 1] {
-                if stamp >> 32 != 0 {
-                    continue;
-                }
+            let near = |stamp: u64| [stamp.saturating_sub(1), stamp, stamp + 1];
+            for stamp in [near(0), near(60), near(start), near(start + 60), near(end), near((1 << 32) - 2)].concat() {
                 let call = Means { stamps: vec![stamp as u32], readings: vec![1], first_hour, hours };
-                let expected = if (start..end).contains(&stamp) { Ok(0) } else { Err(19) };
+                let expected = if start < stamp && stamp <= end { Ok(0) } else { Err(19) };
                 assert_eq!(call.run(&mut random), expected, "{call:?}");
             }
+        }
+    }
+}
+
+/// The minutes on both sides of an hour's end, each with 44 more of its hour: the 60th is the earlier hour's 45th reading, the 61st the later one's.
+#[test]
+fn last_minute_of_an_hour() {
+    let mut random = Random(48);
+    for first_hour in [0, 1, 70_999_999, 71_000_000] {
+        for hours in [2, 3, 153] {
+            for hour in [first_hour, first_hour + hours as u32 - 2] {
+                let (end, at) = (60 * (hour + 1), (hour - first_hour) as usize);
+                let mut expected = vec![ABSENT; hours];
+                let mut call = Means { stamps: (end - 44..=end).collect(), readings: vec![3; 45], first_hour, hours };
+                expected[at] = 3;
+                assert_eq!(call.result(&mut random), (Ok(0), expected.clone()));
+                call.stamps = (end - 44..=end + 45).collect();
+                call.readings = [[3; 45], [-4; 45]].concat();
+                expected[at + 1] = -4;
+                assert_eq!(call.result(&mut random), (Ok(0), expected.clone()));
+                // one minute less on either side of the end
+                call.stamps.remove(44);
+                call.readings.remove(44);
+                assert_eq!(call.result(&mut random).1[at..at + 2], [ABSENT, -4]);
+                call.stamps.remove(44);
+                call.readings.remove(44);
+                assert_eq!(call.result(&mut random).1[at..at + 2], [ABSENT, ABSENT]);
+            }
+        }
+    }
+}
+
+/// Stamp 0 gives 19 whatever the first hour, after 18 and before 16.
+#[test]
+fn stamp_0() {
+    let mut random = Random(49);
+    for first_hour in [0, 1, 71_000_000] {
+        for hours in [0, 1, 153] {
+            let mut call = Means { stamps: vec![0], readings: vec![-2_001], first_hour, hours };
+            assert_eq!(call.run(&mut random), Err(19));
+            call.stamps.push(0);
+            call.readings.push(1);
+            assert_eq!(call.run(&mut random), Err(18));
         }
     }
 }

@@ -1,5 +1,5 @@
 -- The laws of means and packing.
-mod Stamps
+pub mod Stamps
 mod Runs
 mod Scan
 mod Numbers

@@ -15,12 +15,12 @@ use trials::tally::count_of;
 use trials::tally::nothing;
 use trials::tally::number_of;
 
-// The first minutes of hour 0.
+// The stamps of the first minutes of hour 0, which name the minutes' ends.
 fn minutes(stamps: &mut [u32]) {
     let mut i = 0;
     while i < stamps.len() {
         let minute = (i % 60) as u32;
-        stamps[i] = minute;
+        stamps[i] = minute + 1;
         i += 1;
     }
 }
@@ -60,6 +60,28 @@ pub fn known_means() -> Tally {
     let u = whole_hour(t, 29, 0);
     let v = whole_hour(u, -30, -1);
     enough(too_few(v))
+}
+
+// One reading at a stamp, in one hour: the number that is answered.
+fn one_stamp(t: Tally, stamp: u32, hour: u32, number: u64) -> Tally {
+    let mut out = [9i16; 1];
+    let answer = means(&[stamp], &[0], hour, &mut out);
+    t.compared(number_of(answer) == number)
+}
+
+// The same in 153 hours from the greatest first hour on.
+fn late_stamp(t: Tally, stamp: u32, number: u64) -> Tally {
+    let mut out = [9i16; 153];
+    let answer = means(&[stamp], &[0], 71_000_000, &mut out);
+    t.compared(number_of(answer) == number)
+}
+
+// Stamps at the ends of hours: 0 is in none, 60 in the first, 61 in the second.
+pub fn known_stamps() -> Tally {
+    let t = one_stamp(one_stamp(nothing(), 0, 0, 19), 1, 0, 0);
+    let u = one_stamp(one_stamp(t, 60, 0, 0), 61, 0, 19);
+    let v = one_stamp(one_stamp(u, 60, 1, 19), 61, 1, 0);
+    late_stamp(late_stamp(v, 4_260_009_180, 0), 4_260_009_181, 19)
 }
 
 // Over 64 elements with k = 5: the means 0 and 32,767, an absent one, and back.

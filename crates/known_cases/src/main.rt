@@ -18,6 +18,7 @@ fn main() {
     group(b"known cases, functions", known::known_functions());
     group(b"known cases, k = 0 and k = 8", known::known_dimensions());
     group(b"known cases, hourly means", hourly::known_means());
+    group(b"known cases, stamps", hourly::known_stamps());
     group(b"known cases, packing", hourly::known_packing());
     choices::all_a();
     choices::all_b();

@@ -132,7 +132,7 @@ pub fn heard_word(kind: &Kind, code: &OwnCode, random: &mut Random) -> (Vec<u16>
 /// A day from any hour on: stamps and readings of seven minutes of eight.
 pub fn day(random: &mut Random) -> (u32, Vec<u32>, Vec<i16>) {
     let first_hour = random.below(70_000_000) as u32;
-    let stamps: Vec<u32> = (0..24 * 60).map(|minute| first_hour * 60 + minute).filter(|_| !random.once_in(8)).collect();
+    let stamps: Vec<u32> = (1..=24 * 60).map(|minute| first_hour * 60 + minute).filter(|_| !random.once_in(8)).collect();
     let readings = stamps.iter().map(|_| reading(random)).collect();
     (first_hour, stamps, readings)
 }

@@ -18,6 +18,9 @@ loop-holds c = search needs
 cast-minute : tie.Need-cast-minute Inv-loop μ-loop
 cast-minute c = search needs
 
+add-stamps : tie.Need-add-stamps Inv-loop μ-loop
+add-stamps c = search needs
+
 mul-stamps : tie.Need-mul-stamps Inv-loop μ-loop
 mul-stamps c = search needs
 
@@ -47,6 +50,7 @@ minutes-spec =
     μ-loop
     loop-holds
     cast-minute
+    add-stamps
     mul-stamps
     slice-write-stamps
     add-i
