@@ -36,7 +36,7 @@ unfolding allBelow width rows
 width-is m h = eqb→eq (width m) m (each-field (λ m. eqb (width m) m) tt h)
 
 -- a call that is done leaves what is accepted
-done-accepted : {M : Type 0} (o : Outcome M) {old new : M} → Meets o Done old new → o ≡ accepted new
+pub done-accepted : {M : Type 0} (o : Outcome M) {old new : M} → Meets o Done old new → o ≡ accepted new
 unfolding answer left
 done-accepted (refused e) m = let z = m .answers in cc
 done-accepted (accepted l) m = ap accepted (sym (m .leaves))

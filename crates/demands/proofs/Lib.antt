@@ -4,6 +4,7 @@ mod Ones
 mod Rows
 mod Order
 pub mod Blocks
+pub mod Hours
 pub mod Demand1
 pub mod Demand2
 pub mod Demand3

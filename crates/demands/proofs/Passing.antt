@@ -66,6 +66,12 @@ module _ (code : Code) (J : List ℕ) where
       let inside = fits (P .unique) (λ p i. let (least, most) = in-all i (P .spots) in in-as (omega arith) (in-map suc (in-below (n code) (p - 1) (omega arith)))) in
       omega (arith, inside, length-map (below (n code)) suc, length-table (λ b. b) (n code))
 
+-- a test that fails
+pub refused-on : {M : Type 0} (e : Refusal) (o : Outcome M) {b : Bool} {r : Answer} {old new : M} → b ≡ false → Meets (check b e o) r old new → r ≡ Refused e
+unfolding check answer
+refused-on e o {b = true} h m = cc
+refused-on e o {b = false} h m = m .answers
+
 -- the last test decides: a refusal exactly if it fails, and otherwise what is accepted
 pub record Decided {M : Type 0} (b : Bool) (e : Refusal) (l : M) (r : Answer) (new : M) : Type 0 where
   pub refuses : (r ≡ Refused e) ↔ (b ≡ false)

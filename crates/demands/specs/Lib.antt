@@ -5,6 +5,7 @@ pub mod Demand1
 pub mod Demand2
 pub mod Demand3
 pub mod Correction
+pub mod Hours
 pub mod Blocks
 pub mod Day
 pub mod Starred
