@@ -5,3 +5,5 @@ pub mod Loops
 pub mod BitLists
 pub mod Shifts
 pub mod Signed
+pub mod SetBits
+pub mod LittleEndian

@@ -2,11 +2,11 @@
 use Prim.Native.Nat.{ℕ, zero, suc, _+_, _-_, _≤_, _<_}
 use mathlib.Core.Bool.{Bool, true, false, cond, not, _&&_, _||_, false≢true, and-assoc}
 use mathlib.Core.Path.{_≡_, refl, sym, _∙_, ap}
-use mathlib.Core.List.{List, [], _∷_, _++_, append-assoc, map, map-append}
+use mathlib.Core.List.{List, [], _∷_, _++_, append-assoc, append-nil, map, map-append}
 use native.Mathlib.Numerals.{add-one}
 use native.Mathlib.Decide.{decLt}
 use native.Mathlib.Omega.{arith}
-use native.Mathlib.Nat.{not-suc-le-zero, le-of-suc-le-suc, le-trans}
+use native.Mathlib.Nat.{not-suc-le-zero, le-of-suc-le-suc, le-trans, add-zero, add-suc}
 use borrow.Author.Tests.{eqb-true, eq-eqb, not-true}
 use lib.Dec.{eqb}
 use lib.ListN.{length, getD, take, drop, replicate, length-append, length-drop, List·getD-append}
@@ -118,6 +118,16 @@ module _ {A : Type 0} where
       go true e = omega arith
       go false e = omega arith
 
+  -- nothing passes among f 0, f 1, .. from k on
+  pub filter-skip : (p : A → Bool) (f : ℕ → A) (k n : ℕ) → k ≤ n → ((i : ℕ) → k ≤ i → i < n → p (f i) ≡ false) → filter p (table f n) ≡ filter p (table f k)
+  filter-skip p f k zero h g = let e : 0 ≡ k = omega arith in ap (λ i. filter p (table f i)) e
+  filter-skip p f k (suc n) h g =
+      elim (decLt n k) [
+        | yes l ↦ (let e : suc n ≡ k = omega arith in ap (λ i. filter p (table f i)) e)
+        | no l ↦ filter-append p (table f n) (f n ∷ []) ∙ rw (g n (omega arith) (omega arith)) (append-nil (filter p (table f n)))
+            ∙ filter-skip p f k n (omega arith) (λ i a b. g i a (omega arith))
+      ]
+
   -- ---- no element twice
 
   pub different-get : (s : A → A → Bool) (l : List A) (d : A) (i j : ℕ) → different s l ≡ true → i < j → j < length l → s (getD l i d) (getD l j d) ≡ false
@@ -143,6 +153,14 @@ module _ {A : Type 0} where
   length-table f zero = refl
   length-table f (suc n) = length-append (table f n) _ ∙ ap (λ (k : ℕ). k + 1) (length-table f n) ∙ add-one n
 
+  pub table-front : (f : ℕ → A) (n : ℕ) → table f (suc n) ≡ f 0 ∷ table (λ i. f (suc i)) n
+  table-front f zero = refl
+  table-front f (suc n) = ap (λ l. l ++ (f (suc n) ∷ [])) (table-front f n)
+
+  pub table-add : (f : ℕ → A) (m n : ℕ) → table f (m + n) ≡ table f m ++ table (λ i. f (m + i)) n
+  table-add f m zero = rw add-zero (sym (append-nil (table f m)))
+  table-add f m (suc n) = rw add-suc (ap (λ l. l ++ (f (m + n) ∷ [])) (table-add f m n)) ∙ append-assoc (table f m) (table (λ i. f (m + i)) n) (f (m + n) ∷ [])
+
   pub getD-table : (f : ℕ → A) (n i : ℕ) (d : A) → i < n → getD (table f n) i d ≡ f i
   getD-table f zero i d h = absurd (not-suc-le-zero h)
   getD-table f (suc n) i d h =
@@ -167,9 +185,26 @@ module _ {A : Type 0} where
   all-table p f zero h = refl
   all-table p f (suc n) h = all-append p (table f n) (f n ∷ []) ∙ rw (all-table p f n (λ i k. h i (omega arith)), h n (omega arith))
 
+-- two tests of two tables, which agree from element to element
+pub all-table-as : {A B : Type 0} (p : A → Bool) (r : B → Bool) (f : ℕ → A) (g : ℕ → B) (n : ℕ) → ((i : ℕ) → i < n → p (f i) ≡ r (g i)) → all p (table f n) ≡ all r (table g n)
+all-table-as p r f g zero h = refl
+all-table-as p r f g (suc n) h =
+    all-append p (table f n) (f n ∷ []) ∙ rw (all-table-as p r f g n (λ i k. h i (omega arith)), h n (omega arith)) (sym (all-append r (table g n) (g n ∷ [])))
+
 pub map-table : {A B : Type 0} (g : A → B) (f : ℕ → A) (n : ℕ) → map g (table f n) ≡ table (λ i. g (f i)) n
 map-table g f zero = refl
 map-table g f (suc n) = map-append g (table f n) (f n ∷ []) ∙ rw (map-table g f n)
+
+-- what passes among f 0, f 1, .. is what f gives for the indices that pass
+pub filter-table : {A : Type 0} (p : A → Bool) (f : ℕ → A) (r : ℕ → Bool) (n : ℕ) → ((i : ℕ) → i < n → p (f i) ≡ r i) → filter p (table f n) ≡ map f (filter r (table (λ i. i) n))
+filter-table p f r zero h = refl
+filter-table p f r (suc n) h =
+    filter-append p (table f n) (f n ∷ [])
+    ∙ rw (filter-table p f r n (λ i k. h i (omega arith)), h n (omega arith), filter-append r (table (λ i. i) n) (n ∷ [])) (last (r n))
+  where
+    last : (b : Bool) → map f (filter r (table (λ i. i) n)) ++ cond b (f n ∷ []) [] ≡ map f (filter r (table (λ i. i) n) ++ cond b (n ∷ []) [])
+    last true = sym (map-append f (filter r (table (λ i. i) n)) (n ∷ []))
+    last false = sym (map-append f (filter r (table (λ i. i) n)) [])
 
 pub getD-map-in : {A B : Type 0} (f : A → B) (l : List A) (i : ℕ) (d : A) (e : B) → i < length l → getD (map f l) i e ≡ f (getD l i d)
 getD-map-in f [] i d e h = absurd (not-suc-le-zero h)

@@ -5,10 +5,10 @@ use mathlib.Core.Path.{_≡_, refl, sym, _∙_}
 use mathlib.Core.List.{List, [], _∷_, _++_, append-assoc, append-nil}
 use native.Mathlib.Numerals.{add-one}
 use native.Mathlib.Omega.{arith}
-use native.Mathlib.Nat.{le-refl}
+use native.Mathlib.Nat.{le-refl, add-zero, add-suc, suc-add}
 use borrow.Author.Tests.{eq-eqb, ne-eqb}
 use lib.ListN.{length, getD, take, drop, set, length-append, length-set, drop-of-length-le}
-use lib.Seq.{append-snoc, drop-cons, set-at, take-at, take-suc-set, drop-set-lt}
+use lib.Seq.{sets, append-snoc, drop-cons, set-at, take-at, take-suc-set, drop-set-lt}
 use Rattle.basics.specs.Lists.{all, filter, table, same, written}
 use Rattle.basics.proofs.Lists.{all-append, all-not, filter-append, length-filter, length-table, getD-table}
 
@@ -113,3 +113,10 @@ module _ {A : Type 0} where
 
   pub appended-as : {l m old out : List A} {n : ℕ} → l ≡ m → Appended l old out n → Appended m old out n
   appended-as e a = rw e at a
+
+  -- several at once
+  pub appended-all : {l old out : List A} {n : ℕ} (m : List A) → n + length m ≤ length old → Appended l old out n → Appended (l ++ m) old (sets out n m) (n + length m)
+  appended-all {l} {old} {out} {n} [] h a = rw add-zero (appended-as (sym (append-nil l)) a)
+  appended-all {l} {old} {out} {n} (v ∷ m) h a =
+      let turn = appended-all m (omega arith) (rw add-one at (appended-one v (omega arith) a)) in
+      rw add-suc (rw suc-add at (appended-as (append-snoc l v m) turn))

@@ -2,3 +2,4 @@
 pub mod Outcome
 pub mod Lists
 pub mod Bits
+pub mod SetBits

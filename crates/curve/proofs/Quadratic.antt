@@ -2,7 +2,7 @@
 use Prim.Native.Nat.{ℕ, zero, suc, _+_, _≤_, _<_}
 use mathlib.Core.Bool.{Bool, true, false}
 use mathlib.Core.Path.{_≡_, refl, sym, ap, _∙_}
-use mathlib.Core.List.{List, [], _∷_, _++_, append-nil}
+use mathlib.Core.List.{List, [], _∷_, _++_}
 use native.Mathlib.Decide.{ℕ-discrete, decLt}
 use native.Mathlib.Nat.{not-suc-le-zero}
 use native.Mathlib.Omega.{arith}
@@ -10,7 +10,7 @@ use borrow.Author.Tests.{eq-eqb, ne-eqb, lt-ltb, le-ltb}
 use lib.ListN.{getD, set, replicate, length-replicate, length-set}
 use lib.Seq.{getD-set-same, getD-set-other}
 use Rattle.basics.specs.Lists.{filter, table}
-use Rattle.basics.proofs.Lists.{filter-append, getD-zeros}
+use Rattle.basics.proofs.Lists.{filter-skip, getD-zeros}
 use Rattle.basics.proofs.Loops.{filter-table-more}
 use Rattle.field.specs.Sum.{_⊕_}
 use Rattle.field.specs.Field.{Arithmetic, Field}
@@ -61,22 +61,12 @@ module _ (f : ℕ → ℕ) where
 -- ---- what passes a test among f 0, f 1, ..
 
 module _ {A : Type 0} (p : A → Bool) (f : ℕ → A) where
-  -- nothing passes from k on
-  filter-skip : (k n : ℕ) → k ≤ n → ((i : ℕ) → k ≤ i → i < n → p (f i) ≡ false) → filter p (table f n) ≡ filter p (table f k)
-  filter-skip k zero h g = let e : 0 ≡ k = omega arith in ap (λ i. filter p (table f i)) e
-  filter-skip k (suc n) h g =
-      elim (decLt n k) [
-        | yes l ↦ (let e : suc n ≡ k = omega arith in ap (λ i. filter p (table f i)) e)
-        | no l ↦ filter-append p (table f n) (f n ∷ []) ∙ rw (g n (omega arith) (omega arith)) (append-nil (filter p (table f n)))
-            ∙ filter-skip k n (omega arith) (λ i a b. g i a (omega arith))
-      ]
-
   -- two alone pass
   filter-two : (n a b : ℕ) → a < b → b < n → p (f a) ≡ true → p (f b) ≡ true → ((i : ℕ) → i < n → (i ≡ a → ⊥) → (i ≡ b → ⊥) → p (f i) ≡ false) → filter p (table f n) ≡ f a ∷ f b ∷ []
   filter-two n a b h k ea eb no-other =
-      let first = filter-skip 0 a (omega arith) (λ i l m. no-other i (omega arith) (λ e. omega arith) (λ e. omega arith)) in
-      let between = filter-skip (a + 1) b (omega arith) (λ i l m. no-other i (omega arith) (λ e. omega arith) (λ e. omega arith)) in
-      let last = filter-skip (b + 1) n (omega arith) (λ i l m. no-other i m (λ e. omega arith) (λ e. omega arith)) in
+      let first = filter-skip p f 0 a (omega arith) (λ i l m. no-other i (omega arith) (λ e. omega arith) (λ e. omega arith)) in
+      let between = filter-skip p f (a + 1) b (omega arith) (λ i l m. no-other i (omega arith) (λ e. omega arith) (λ e. omega arith)) in
+      let last = filter-skip p f (b + 1) n (omega arith) (λ i l m. no-other i m (λ e. omega arith) (λ e. omega arith)) in
       last ∙ filter-table-more p f b eb ∙ ap (λ l. l ++ (f b ∷ [])) (between ∙ filter-table-more p f a ea ∙ ap (λ l. l ++ (f a ∷ [])) first)
 
 -- ---- the solutions

@@ -7,11 +7,8 @@ use native.Mathlib.Omega.{arith}
 use lib.Dec.{eqb}
 use lib.ListN.{length, getD}
 use Rattle.basics.specs.Lists.{filter, table}
+use Rattle.basics.proofs.Lists.{table-front}
 use Rattle.decoding.specs.Near.{distance}
-
-pub table-front : {A : Type 0} (f : ℕ → A) (n : ℕ) → table f (suc n) ≡ f 0 ∷ table (λ i. f (suc i)) n
-table-front f zero = refl
-table-front f (suc n) = ap (λ l. l ++ (f (suc n) ∷ [])) (table-front f n)
 
 module _ {A : Type 0} where
   -- those that pass and those that do not
