@@ -1,5 +1,6 @@
 -- The laws of the code test and of the loops over lists.
 mod Answering
+mod Bounds
 mod Injective
 mod Marking
 mod Repeats

@@ -22,21 +22,12 @@ ghost use Rattle.field.specs.Tables.{Tables};
 ghost use Rattle.elliptic.specs.Curve.{coefficientsBelow};
 ghost use Rattle.codewords.specs.Code.{codeOf, codeAnswer};
 ghost use Rattle.code.specs.Slots.{slot};
-ghost use Rattle.code.specs.Points.{isPoint, Judged, countIn, dimensionIn, pointsAnswer};
+ghost use Rattle.code.specs.Points.{Judged, countIn, dimensionIn, pointsAnswer};
 
 // What one pass over the points finds: all are points of the curve; no slot is met twice.
 struct Verdict {
     on: bool,
     apart: bool,
-}
-
-// Whether p has coordinates in the field and lies on the curve, without a branch.
-fn is_point(m: u8, powers: &[u8; 1021], logs: &[u16; 512], c: Curve, q: usize, p: Point) -> bool
-    requires { ⌜ Tables m (now powers) (now logs) × (q ≡ size m) ⌝ }
-    ensures { λ r. ⌜ r ≡ isPoint (galois m) c p ⌝ }
-{
-    let inside = (wide(p.x) < q) & (wide(p.y) < q);
-    inside & on_curve(m, powers, logs, c, p)
 }
 
 fn slot(m: u8, powers: &[u8; 1021], logs: &[u16; 512], c: Curve, p: Point) -> usize
@@ -49,7 +40,8 @@ fn slot(m: u8, powers: &[u8; 1021], logs: &[u16; 512], c: Curve, p: Point) -> us
     twice + greater as usize
 }
 
-// One pass over the points, without an early exit. Marks are lent for the slots, of whatever bytes the lists hold.
+// One pass over the points, without an early exit. q is a power of 2: all coordinates are below it if all their bits together are. Marks are lent for
+// the slots, of whatever bytes the lists hold.
 fn pass_over(
     m: u8,
     powers: &[u8; 1021],
@@ -63,7 +55,7 @@ fn pass_over(
     requires { ⌜ (length (now xs) ≡ length (now ys)) × (now seen ≡ replicate 512 0) ⌝ }
     ensures { λ r. ⌜ Judged m c (now (xs .entry)) (now (ys .entry)) (r .on) (r .apart) ⌝ }
 {
-    let q = size(m);
+    let mut bits: u8 = 0;
     let mut on = true;
     let mut apart = true;
     let mut i = 0;
@@ -71,14 +63,15 @@ fn pass_over(
         let x = xs[i];
         let y = ys[i];
         let p = Point { x: x, y: y };
-        on = on & is_point(m, powers, logs, c, q, p);
+        bits = bits | (x | y);
+        on = on & on_curve(m, powers, logs, c, p);
         let s = slot(m, powers, logs, c, p);
         apart = apart & (seen[s] != 1);
         seen[s] = 1;
         i += 1;
     }
     Verdict {
-        on: on,
+        on: (wide(bits) < size(m)) & on,
         apart: apart,
     }
 }
