@@ -5,3 +5,4 @@ mod Injective
 mod Marking
 mod Repeats
 pub mod Tested
+pub mod Words

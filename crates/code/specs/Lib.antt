@@ -3,3 +3,4 @@ pub mod Heard
 pub mod Lists
 pub mod Points
 pub mod Slots
+pub mod Words

@@ -1,8 +1,9 @@
-// Heard: from a mask of the receiver to the places that it heard.
+// Heard: from a mask of the receiver to the places that it heard, eight bytes at a time.
 use crate::test::test_code_with;
 use basics::Answer;
-use basics::Place;
 use basics::Refusal;
+use bitset::list_set;
+use bitset::word;
 use codewords::Parameters;
 use field::is_field;
 use field::logarithms;
@@ -13,45 +14,36 @@ ghost use lib.ListN.{length};
 ghost use Rattle.basics.specs.Lists.{written};
 ghost use Rattle.basics.specs.Outcome.{Meets};
 ghost use Rattle.codewords.specs.Code.{codeOf};
-ghost use Rattle.code.specs.Heard.{isHeard, heardPlaces, nonePast, heardTested, heardOutcome};
+ghost use Rattle.code.specs.Heard.{nonePast, heardTested, heardOutcome};
+ghost use Rattle.code.specs.Words.{setPlaces};
 
-// The place's bit is set.
-fn is_heard(mask: &[u8], p: Place) -> bool
-    requires { ⌜ (length (now mask) ≡ 40) × (1 ≤ p .0) × (p .0 ≤ 320) ⌝ }
-    ensures { λ r. ⌜ r ≡ isHeard (now (mask .entry)) p ⌝ }
-{
-    let i = p.0 as usize - 1;
-    (mask[i / 8] >> (i % 8)) % 2 == 1
-}
-
-// No bit is set past the n-th.
+// No bit is set past the n-th: none from bit n mod 64 of word n div 64 on, and none in the words after it.
 fn none_past(mask: &[u8], n: usize) -> bool
     requires { ⌜ (length (now mask) ≡ 40) × (n ≤ 288) ⌝ }
     ensures { λ r. ⌜ r ≡ nonePast (now (mask .entry)) n ⌝ }
 {
-    let mut p = n;
-    while p < 320 {
-        p += 1;
-        if is_heard(mask, Place(p as u16)) {
+    let mut w = n / 64;
+    let mut from = n % 64;
+    while w < 5 {
+        if word(mask, 8 * w) >> from != 0 {
             return false;
         }
+        from = 0;
+        w += 1;
     }
     true
 }
 
-// The heard places of 1 to n, to the front of `out`; how many there are.
-fn fill_heard(mask: &[u8], n: usize, out: &mut [u16]) -> usize
-    requires { ⌜ (length (now mask) ≡ 40) × (n ≤ 288) × (length (now out) ≡ 288) ⌝ }
-    ensures { λ r. ⌜ (r ≡ length (heardPlaces (now (mask .entry)) n)) × (now (out .exit) ≡ written (heardPlaces (now (mask .entry)) n) (now (out .entry))) ⌝ }
+// The places of all set bits, to the front of `out`; how many there are.
+fn fill_heard(mask: &[u8], out: &mut [u16]) -> usize
+    requires { ⌜ (length (now mask) ≡ 40) × (length (setPlaces (now mask)) ≤ length (now out)) ⌝ }
+    ensures { λ r. ⌜ (r ≡ length (setPlaces (now (mask .entry)))) × (now (out .exit) ≡ written (setPlaces (now (mask .entry))) (now (out .entry))) ⌝ }
 {
     let mut count = 0;
-    let mut p = 0;
-    while p < n {
-        p += 1;
-        if is_heard(mask, Place(p as u16)) {
-            out[count] = p as u16;
-            count += 1;
-        }
+    let mut i = 0;
+    while i < 5 {
+        count = list_set(word(mask, 8 * i), (64 * i) as u16, out, count);
+        i += 1;
     }
     count
 }
@@ -70,7 +62,7 @@ fn heard_tested(n: usize, mask: &[u8], out: &mut [u16]) -> Answer
     if !none_past(mask, n) {
         return Answer::Refused(Refusal::Place);
     }
-    let count = fill_heard(mask, n, out);
+    let count = fill_heard(mask, out);
     Answer::Counted(count)
 }
 

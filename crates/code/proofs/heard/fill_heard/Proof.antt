@@ -1,88 +1,85 @@
--- The loop's invariant: the heard places up to p stand at the front of the buffer.
-use Prim.Native.Nat.{ℕ, suc, _≤_, _-_}
-use mathlib.Core.Path.{_≡_, sym, _∙_, subst}
-use mathlib.Core.Bool.{true, false}
-use native.Mathlib.Numerals.{add-one}
+-- The loop's invariant: the places of the first i words stand at the front of the buffer.
+use Prim.Native.Nat.{ℕ, _+_, _*_, _-_, _^_, _≤_, _<_}
+use mathlib.Core.Path.{_≡_, subst}
+use mathlib.Core.List.{List}
 use native.Mathlib.Omega.{arith}
+use lib.Count.{ones}
 use lib.ListN.{length}
-use Rattle.basics.proofs.Loops.{Appended, appended-none, appended-one, appended-as, filter-table-more, filter-table-less, filter-table-few}
-use Rattle.code.specs.Heard.{heardAt, heardPlaces}
+use Rattle.basics.specs.SetBits.{Bytes}
+use Rattle.basics.proofs.Loops.{Appended, appended-none}
+use Rattle.code.specs.Heard.{heardPlaces}
+use Rattle.code.proofs.Words.{room-more, places-appended}
 use borrow.Author.Needs.{needs}
 use Rattle.code.proofs.heard.fill_heard.Statement.{statement}
 use Rattle.code.proofs.heard.fill_heard.Tie as tie
 
 abbrev Inv-loop : tie.InvT-loop
-Inv-loop mask n out₀ count₀ p₀ out count p = (p ≤ n) × Appended (heardPlaces mask p) out₀ out count
+Inv-loop mask out₀ count₀ i₀ out count i = (i ≤ 5) × Appended (heardPlaces mask (64 * i)) out₀ out count
 
 abbrev μ-loop : tie.MeasureT-loop
-μ-loop mask n out₀ count₀ p₀ out count p = n - p
+μ-loop mask out₀ count₀ i₀ out count i = 5 - i
 
-few : (c : tie.At-loop Inv-loop μ-loop) → length (heardPlaces (c .before .before .before .args .mask .now) (c .loop .p)) ≤ c .loop .p
-few c = filter-table-few (heardAt (c .before .before .before .args .mask .now)) suc (c .loop .p)
+-- at the word that was read
+module _ (c : tie.After-word Inv-loop μ-loop) where
+  abbrev at-loop : tie.At-loop Inv-loop μ-loop
+  at-loop = c .before .before
 
-yes-at : (c : tie.Then1 Inv-loop μ-loop) → heardAt (c .before .before .before .before .before .before .args .mask .now) (suc (c .before .before .before .loop .p)) ≡ true
-yes-at c = rw (← add-one (c .before .before .before .loop .p)) (sym (c .before .is-heard .ensures) ∙ c .if1 .taken)
+  abbrev mask : List ℕ
+  mask = at-loop .before .before .before .args .mask .now
 
-no-at : (c : tie.Else1 Inv-loop μ-loop) → heardAt (c .before .before .before .before .before .before .args .mask .now) (suc (c .before .before .before .loop .p)) ≡ false
-no-at c = rw (← add-one (c .before .before .before .loop .p)) (sym (c .before .is-heard .ensures) ∙ c .if1 .left)
+  bytes : Bytes mask
+  bytes i = at-loop .before .before .shared-slice-known .given i .fits
+
+  fits : c .word .result < 2 ^ 64
+  fits = omega arith
+
+  room : at-loop .loop .count + ones (c .word .result) ≤ length (at-loop .before .before .before .args .out .now)
+  room =
+      let entry = at-loop .before .before .before in
+      room-more mask bytes (at-loop .loop .i) (c .word .ensures) fits (length (entry .args .out .now)) (omega (arith, c .before .loop-test .taken)) (entry .pre .0) (entry .pre .1) (at-loop .loop .inv .1 .count)
 
 loop-holds : tie.Need-loop-holds Inv-loop μ-loop
 loop-holds c = (omega arith, appended-none _)
 
-add-p : tie.Need-add-p Inv-loop μ-loop
-add-p c = search needs
+mul-word : tie.Need-mul-word Inv-loop μ-loop
+mul-word c = search needs
 
-cast-t8 : tie.Need-cast-t8 Inv-loop μ-loop
-cast-t8 c = search needs
+word-requires : tie.Need-word-requires Inv-loop μ-loop
+word-requires c κs = search needs
 
-is-heard-requires : tie.Need-is-heard-requires Inv-loop μ-loop
-is-heard-requires c κs = search needs
+mul-list-set : tie.Need-mul-list-set Inv-loop μ-loop
+mul-list-set c = search needs
 
-cast-out : tie.Need-cast-out Inv-loop μ-loop
-cast-out c = search needs
+cast-list-set : tie.Need-cast-list-set Inv-loop μ-loop
+cast-list-set c = search needs
 
-mul-out : tie.Need-mul-out Inv-loop μ-loop
-mul-out c = omega (arith, few (c .before .before .before))
+list-set-requires : tie.Need-list-set-requires Inv-loop μ-loop
+list-set-requires c κs = (omega (arith, room (c .before), at-loop (c .before) .loop .inv .1 .size), omega arith)
 
-slice-write-out : tie.Need-slice-write-out Inv-loop μ-loop
-slice-write-out c =
-    let l = c .before .before .before in
-    omega (arith, l .loop .inv .1 .count, l .loop .inv .1 .size, few l)
-
-add-count : tie.Need-add-count Inv-loop μ-loop
-add-count c = omega (arith, few (c .before .before .before))
+add-i : tie.Need-add-i Inv-loop μ-loop
+add-i c = search needs
 
 loop-less : tie.Need-loop-less Inv-loop μ-loop
 loop-less c = search needs
 
 loop-again : tie.Need-loop-again Inv-loop μ-loop
 loop-again c =
-    let l = c .before .before .before in
-    let s = l .before .before .before .args in (
+    let call = c .before .before in
+    let w = call .before .before in (
       omega arith,
-      appended-as (sym (filter-table-more (heardAt (s .mask .now)) suc (l .loop .p) (yes-at c)))
-          (rw add-one (appended-one (suc (l .loop .p)) (omega (arith, l .loop .inv .1 .count, few l)) (l .loop .inv .1))),
+      places-appended (mask w) (bytes w) (at-loop w .loop .i) (w .word .ensures) (fits w) (room w) (call .list-set .ensures .0) (call .list-set .ensures .1) (at-loop w .loop .inv .1),
     )
-
-loop-less-2 : tie.Need-loop-less-2 Inv-loop μ-loop
-loop-less-2 c = search needs
-
-loop-again-2 : tie.Need-loop-again-2 Inv-loop μ-loop
-loop-again-2 c =
-    let l = c .before .before .before in
-    let s = l .before .before .before .args in
-    (omega arith, appended-as (sym (filter-table-less (heardAt (s .mask .now)) suc (l .loop .p) (no-at c))) (l .loop .inv .1))
 
 same-length : tie.Need-same-length Inv-loop μ-loop
 same-length c = c .before .loop .inv .1 .size
 
 returns : tie.Need-returns Inv-loop μ-loop
 returns c =
-    let l = c .before in
-    let s = l .before .before .before .args in
-    let i : l .loop .p ≡ s .n = omega arith in
-    let a = subst (λ (p : ℕ). Appended (heardPlaces (s .mask .now) p) (s .out .now) (l .loop .out) (l .loop .count)) i (l .loop .inv .1) in
-    (a .count, a .holds)
+    let at-loop = c .before in
+    let a = at-loop .before .before .before .args in
+    let end : 64 * at-loop .loop .i ≡ 8 * length (a .mask .now) = omega arith in
+    let done = subst (λ m. Appended (heardPlaces (a .mask .now) m) (a .out .now) (at-loop .loop .out) (at-loop .loop .count)) end (at-loop .loop .inv .1) in
+    (done .count, done .holds)
 
 pub fill-heard-spec : {M : Type 1} → statement M
 fill-heard-spec =
@@ -91,16 +88,13 @@ fill-heard-spec =
     Inv-loop
     μ-loop
     loop-holds
-    add-p
-    cast-t8
-    is-heard-requires
-    cast-out
-    mul-out
-    slice-write-out
-    add-count
+    mul-word
+    word-requires
+    mul-list-set
+    cast-list-set
+    list-set-requires
+    add-i
     loop-less
     loop-again
-    loop-less-2
-    loop-again-2
     same-length
     returns)

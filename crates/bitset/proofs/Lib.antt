@@ -1,0 +1,3 @@
+-- The laws of the functions on bit sets, and known cases.
+pub mod Places
+mod Cases

@@ -1,0 +1,3 @@
+-- What the functions on bit sets give.
+pub mod Places
+pub mod Cases
