@@ -5,6 +5,7 @@ mod Rows
 mod Order
 pub mod Blocks
 pub mod Hours
+pub mod Masks
 pub mod Demand1
 pub mod Demand2
 pub mod Demand3

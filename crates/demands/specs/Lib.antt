@@ -6,6 +6,7 @@ pub mod Demand2
 pub mod Demand3
 pub mod Correction
 pub mod Hours
+pub mod Masks
 pub mod Blocks
 pub mod Day
 pub mod Starred
