@@ -99,6 +99,33 @@ fn bits_of_the_mask() {
     }
 }
 
+/// Codes whose n is at or beside the end of a 64-bit word: in each word no bit, its lowest or highest, every other one, all, or any.
+#[test]
+fn ends_of_words() {
+    let mut random = Random(35);
+    let whole = OwnCode::whole(8, common::fullest_curve(&mut random), 1);
+    let (mut accepted, mut refused) = (0, 0);
+    for n in [2, 63, 64, 65, 127, 128, 129, 191, 192, 193, 255, 256, 257, 287, 288] {
+        let mut code = whole.clone();
+        code.xs.truncate(n);
+        code.ys.truncate(n);
+        for _ in 0..400 {
+            let any = random.next();
+            let kinds = [0, 1, 1 << 63, 1 | 1 << 63, 0x5555_5555_5555_5555, u64::MAX, any];
+            let words: Vec<u64> = (0..MASK_BYTES / 8).map(|_| random.pick(&kinds)).collect();
+            let is_set = |p: usize| words[(p - 1) / 64] >> ((p - 1) % 64) & 1 == 1;
+            let heard: Vec<usize> = (1..=n).filter(|&p| is_set(p)).collect();
+            let within = Heard::of(code.clone(), heard.iter().copied());
+            assert_eq!(within.run(&mut random), Ok(heard.len() as u32));
+            let all = Heard { mask: words.iter().flat_map(|word| word.to_le_bytes()).collect(), ..within };
+            let past = (n + 1..=8 * MASK_BYTES).any(is_set);
+            assert_eq!(all.run(&mut random), if past { Err(9) } else { Ok(heard.len() as u32) });
+            *(if past { &mut refused } else { &mut accepted }) += 1;
+        }
+    }
+    assert!(accepted > 100 && refused > 1000);
+}
+
 #[test]
 fn every_length() {
     let mut random = Random(34);

@@ -72,10 +72,10 @@ pub fn code(kind: &Kind, random: &mut Random) -> OwnCode {
     OwnCode { field: kind.field, curve, xs, ys, k: kind.k }
 }
 
-/// Seven places of eight are heard.
-pub fn mask(kind: &Kind, random: &mut Random) -> Vec<u8> {
+/// So many places of eight are heard.
+pub fn mask(kind: &Kind, eighths: u64, random: &mut Random) -> Vec<u8> {
     let mut mask = vec![0; MASK_BYTES];
-    for p in (0..kind.n).filter(|_| !random.once_in(8)) {
+    for p in (0..kind.n).filter(|_| random.below(8) < eighths) {
         mask[p / 8] |= 1 << (p % 8);
     }
     mask

@@ -9,10 +9,10 @@
 mod inputs;
 mod timing;
 
-use inputs::Kind;
+use inputs::{Kind, OwnCode};
 use timing::{Bench, Row};
-use vakhudle::plain::fast;
-use vakhudle::{MASK_BYTES, MOST_POINTS, WORKING_SPACE};
+use vakhudle::plain::{fast, Random};
+use vakhudle::{Answer, Code, MOST_POINTS, WORKING_SPACE};
 
 fn products(bench: &Bench, field: u8, inputs: usize) {
     let n = 4096;
@@ -41,17 +41,32 @@ fn points(bench: &Bench, kind: Kind, bar: Option<f64>) {
     bench.compare(row("any curve".into()), 2 * MOST_POINTS, |random| inputs::curve(field, random).0, ours, plain);
 }
 
-/// Heard: with an empty mask there is hardly more to do than the code test.
-fn masks(bench: &Bench, kind: Kind) {
-    let masks = [("code test", (|_, _| vec![0; MASK_BYTES]) as fn(&_, &mut _) -> Vec<u8>), ("heard", inputs::mask)];
-    for (job, mask) in masks {
-        bench.compare(
-            Row::new(kind.named(job), kind.inputs),
-            MOST_POINTS,
-            |random| (inputs::code(&kind, random), mask(&kind, random)),
-            |(code, mask), out| vakhudle::heard(&code.code(), mask, out),
-            |(code, mask), out| fast::heard(&code.code(), mask, out),
-        );
+type Heard = fn(&Code, &[u8], &mut [u16]) -> Answer;
+
+/// Masks by the thousand, each with one of a hundred codes, sixteen in one measurement: with the code test, and without it.
+fn masks(bench: &Bench, kind: Kind, bar: f64) {
+    const TOGETHER: usize = 16;
+    let mut random = Random(8);
+    let codes: Vec<_> = (0..100).map(|_| inputs::code(&kind, &mut random)).collect();
+    // the places heard, of all these masks together
+    let whole =
+        |heard: Heard| move |all: &Vec<(OwnCode, Vec<u8>)>, out: &mut [u16]| all.iter().map(|(code, mask)| heard(&code.code(), mask, out)).sum();
+    // a mask that is too short is refused right after the code test
+    let test = |heard: Heard| {
+        move |all: &Vec<(OwnCode, Vec<u8>)>, out: &mut [u16]| {
+            assert!(all.iter().all(|(code, mask)| heard(&code.code(), &mask[1..], out) == Err(8)));
+            Ok(0)
+        }
+    };
+    for (heard, eighths) in [("dense", 7), ("sparse", 1), ("empty", 0), ("full", 8)] {
+        let row = |job: &str| Row::new(kind.named(&format!("{job}, {heard} masks")), 4000 / TOGETHER).parts(TOGETHER).bar(bar);
+        let one = |random: &mut Random| (codes[random.below(100) as usize].clone(), inputs::mask(&kind, eighths, random));
+        let make = |random: &mut Random| -> Vec<_> { (0..TOGETHER).map(|_| one(random)).collect() };
+        bench.compare(row("heard"), MOST_POINTS, make, whole(vakhudle::heard), whole(fast::heard));
+        let (ours, plain) = ((whole(vakhudle::heard), test(vakhudle::heard)), (whole(fast::heard), test(fast::heard)));
+        // where nothing is heard that is a few nanoseconds, too few to compare
+        let bar = (eighths > 0).then_some(bar);
+        bench.compare_without(row("heard without the code test").bar(bar), MOST_POINTS, make, ours, plain);
     }
 }
 
@@ -174,7 +189,7 @@ fn main() {
     points(&bench, large, None);
     for (kind, bar) in [(small, 2.0), (large, 3.0)] {
         plain(&bench, kind, bar);
-        masks(&bench, kind);
+        masks(&bench, kind, 1.0);
         packing(&bench, kind);
     }
     means(&bench);

@@ -72,7 +72,49 @@ impl Bench {
         mut ours: impl FnMut(&I, &mut [T]) -> Answer,
         mut plain: impl FnMut(&I, &mut [T]) -> Answer,
     ) -> Option<f64> {
-        let Row { name, inputs, bar, parts } = row;
+        self.row(
+            row,
+            room,
+            make,
+            |input, out| timed(input, out, &mut ours),
+            |input, out| timed(input, out, &mut plain),
+            |times, times_too| median(times.iter().zip(times_too).map(|(here, there)| there / here).collect()),
+        )
+    }
+
+    /// The same without the first part of each job, which is done and timed by itself just before. Such a difference can be small, so that the ratio is
+    /// that of the medians.
+    pub fn compare_without<I: Clone, T: Copy + Default + PartialEq>(
+        &self,
+        row: Row,
+        room: usize,
+        make: impl Fn(&mut Random) -> I,
+        (mut ours, mut our_part): (impl FnMut(&I, &mut [T]) -> Answer, impl FnMut(&I, &mut [T]) -> Answer),
+        (mut plain, mut plain_part): (impl FnMut(&I, &mut [T]) -> Answer, impl FnMut(&I, &mut [T]) -> Answer),
+    ) -> Option<f64> {
+        fn less((part, _): (f64, Answer), (time, answer): (f64, Answer)) -> (f64, Answer) {
+            (time - part, answer)
+        }
+        self.row(
+            row,
+            room,
+            make,
+            |input, out| less(timed(input, out, &mut our_part), timed(input, out, &mut ours)),
+            |input, out| less(timed(input, out, &mut plain_part), timed(input, out, &mut plain)),
+            |times, times_too| median(times_too.to_vec()) / median(times.to_vec()),
+        )
+    }
+
+    /// A side answers its time with its answer.
+    fn row<I, T: Copy + Default + PartialEq>(
+        &self,
+        Row { name, inputs, bar, parts }: Row,
+        room: usize,
+        make: impl Fn(&mut Random) -> I,
+        mut ours: impl FnMut(&I, &mut [T]) -> (f64, Answer),
+        mut plain: impl FnMut(&I, &mut [T]) -> (f64, Answer),
+        ratio: impl Fn(&[f64], &[f64]) -> f64,
+    ) -> Option<f64> {
         if !self.wanted.is_empty() && !self.wanted.iter().any(|part| name.contains(part)) {
             return None;
         }
@@ -83,18 +125,18 @@ impl Bench {
         for (i, input) in inputs.iter().enumerate() {
             let (here, there);
             if i % 2 == 0 {
-                here = timed(input, &mut out[..], &mut ours);
-                there = timed(input, &mut out_too[..], &mut plain);
+                here = ours(input, &mut out);
+                there = plain(input, &mut out_too);
             } else {
-                there = timed(input, &mut out_too[..], &mut plain);
-                here = timed(input, &mut out[..], &mut ours);
+                there = plain(input, &mut out_too);
+                here = ours(input, &mut out);
             }
             assert_eq!(here.1.expect(&name), there.1.expect(&name), "{name}");
             assert!(out == out_too, "{name}");
             times.push(here.0);
             times_too.push(there.0);
         }
-        let ratio = median(times.iter().zip(&times_too).map(|(here, there)| there / here).collect());
+        let ratio = ratio(&times, &times_too);
         let (here, there) = (median(times) / parts as f64, median(times_too) / parts as f64);
         let digits = if parts > 1 { 2 } else { 0 };
         let met = bar.map_or("", |bar| if ratio >= bar { "met" } else { "missed" });
