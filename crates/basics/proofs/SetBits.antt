@@ -64,7 +64,7 @@ ones-odd h = ones-step (h * 2 + 1) ∙ rw (odd-low h, odd-half h) (one-add (ones
 half-lt : (w h : ℕ) {x : ℕ} → h * 2 ≤ x → x < 2 ^ suc w → h < 2 ^ w
 half-lt w h l k = omega (arith, pow-suc 2 w)
 
-pub set-bits-many : (w x : ℕ) → x < 2 ^ w → length (setBits w x) ≡ ones x
+set-bits-many : (w x : ℕ) → x < 2 ^ w → length (setBits w x) ≡ ones x
 unfolding ones setBits
 set-bits-many zero zero l = refl
 set-bits-many zero (suc x) l = absurd (omega arith)
