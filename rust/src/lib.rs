@@ -22,10 +22,10 @@ pub const SHEET_ROOM: usize = 4_096;
 /// The mean of an hour with too few readings.
 pub const ABSENT: i16 = 32_767;
 
-/// A code: a field of 2^field elements, a curve, a list of points on it, and a dimension. Nothing is tested before a call.
+/// A code: a field, a curve, a list of points on it, and a dimension. Nothing is tested before a call.
 #[derive(Clone, Copy, Debug)]
 pub struct Code<'a> {
-    /// The field number m, 2 to 8.
+    /// The field number, 2 to 9: m for the field of 2^m elements, and 9 for the other one of 256.
     pub field: u8,
     /// The coefficients g1, g2, g3, g4, g6.
     pub curve: [u8; 5],
@@ -130,7 +130,7 @@ over_code! {
     /// Answers the count of places changed.
     correct = vakhudle_correct(received: u8; symbols_out: u8, work: u8);
 
-    /// Packs k·m div 15 means into k symbols.
+    /// Packs k·m div 15 means into k symbols of m bits: m is the field number, and 8 for field 9.
     pack = vakhudle_pack(means: i16; symbols_out: u8);
 
     /// The means that were packed into these k symbols.

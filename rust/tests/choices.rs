@@ -1,7 +1,7 @@
 //! The operations on chosen places at the same choice, and what they must have to do with one another; dependence by the curve's group.
 mod common;
 use common::places::*;
-use common::{fullest_curve, Call, OwnCode, FIELDS};
+use common::{Call, OwnCode, FIELDS, FIELDS_OF_256};
 use vakhudle::plain::field::product;
 use vakhudle::plain::{code, Random};
 
@@ -219,14 +219,16 @@ fn daily_block() {
 #[test]
 fn all_288_points() {
     let mut random = Random(68);
-    let mut code = OwnCode::whole(8, fullest_curve(&mut random), 1);
-    for k in [1, 2, 3, 4, 5, 100, 143, 144, 200, 285, 286, 287] {
-        code.k = k;
-        let places = some_places(288, k, &mut random);
-        assert_eq!(all_at(&code, &places, &mut random), adds_up_to_zero(&code, &places));
-        heard_at(&code, &mut random);
-        if let Some(places) = dependent_choice(&code, 4, &mut random) {
-            assert!(all_at(&code, &places, &mut random));
+    for field in FIELDS_OF_256 {
+        let mut code = OwnCode::fullest(field, 1, &mut random);
+        for k in [1, 2, 3, 4, 5, 100, 143, 144, 200, 285, 286, 287] {
+            code.k = k;
+            let places = some_places(288, k, &mut random);
+            assert_eq!(all_at(&code, &places, &mut random), adds_up_to_zero(&code, &places));
+            heard_at(&code, &mut random);
+            if let Some(places) = dependent_choice(&code, 4, &mut random) {
+                assert!(all_at(&code, &places, &mut random));
+            }
         }
     }
 }

@@ -2,7 +2,8 @@
 mod common;
 use common::each::{listed_codes, tests_of_each};
 use common::places::{curve_a, daily, dependent_choice, some_places, with_errors, Correct, Job};
-use common::{curve_that, fullest_curve, spoil_all, OwnCode, FIELDS};
+use common::{curve_that, spoil_all, trials, OwnCode, FIELDS, FIELDS_OF_256};
+use vakhudle::plain::field::width;
 use vakhudle::plain::places::{distance, only_zero_function, radius, recover};
 use vakhudle::plain::{fast, Random};
 use vakhudle::{Answer, Code, WORKING_SPACE};
@@ -28,7 +29,7 @@ fn is_word(code: &OwnCode, word: &[u8]) -> bool {
     recover(&code.code(), word, &mut vec![0; code.k], &mut [0; WORKING_SPACE]).is_ok()
 }
 
-/// All points, three or more, of a curve over each field, and of three curves more.
+/// All points, three or more, of a curve over each field, and of four curves more.
 fn whole_curves(random: &mut Random) -> Vec<OwnCode> {
     let mut curve = |field| loop {
         let code = OwnCode::whole(field, curve_that(false, field, random), 1);
@@ -37,7 +38,8 @@ fn whole_curves(random: &mut Random) -> Vec<OwnCode> {
         }
     };
     let mut codes: Vec<OwnCode> = FIELDS.map(&mut curve).collect();
-    codes.extend([curve_a(1), daily(), OwnCode::whole(8, fullest_curve(random), 1)]);
+    codes.extend([curve_a(1), daily()]);
+    codes.extend(FIELDS_OF_256.map(|field| OwnCode::fullest(field, 1, random)));
     codes
 }
 
@@ -55,7 +57,7 @@ fn dimensions(random: &mut Random, mut test: impl FnMut(&OwnCode, &mut Random)) 
 #[test]
 fn no_more_than_t_errors() {
     let random = &mut Random(81);
-    for (field, count) in FIELDS.zip([200, 200, 150, 80, 25, 8, 3]) {
+    for (field, count) in trials([200, 200, 150, 80, 25, 8, 3, 3]) {
         for _ in 0..count {
             let code = OwnCode::random(field, random);
             let t = radius(&code.code());
@@ -90,11 +92,11 @@ fn t_errors_and_one_more() {
 fn any_number_of_errors() {
     let random = &mut Random(83);
     let (mut near, mut far) = (0, 0);
-    for (field, count) in FIELDS.zip([1000, 1000, 500, 300, 200, 200, 100]) {
+    for (field, count) in trials([1000, 1000, 500, 300, 200, 200, 100, 100]) {
         for i in 0..count {
             let mut code = OwnCode::random(field, random);
             if i % 8 != 0 {
-                code.k = code.k.min(12 / field as usize);
+                code.k = code.k.min(12 / width(field));
             }
             let t = radius(&code.code());
             let sent = any_word(&code, random);
@@ -141,7 +143,7 @@ fn all_codewords_over_4_elements() {
 fn between_two_codewords() {
     let random = &mut Random(84);
     let mut tried = 0;
-    for (field, count) in FIELDS.zip([100, 100, 100, 60, 15, 5, 2]) {
+    for (field, count) in trials([100, 100, 100, 60, 15, 5, 2, 2]) {
         for _ in 0..count {
             let code = OwnCode::random(field, random);
             let (n, t) = (code.n(), radius(&code.code()));
@@ -228,7 +230,7 @@ fn errors_that_belong_together() {
 fn spoilt_calls_with_errors() {
     let random = &mut Random(88);
     let mut codes = vec![daily(); 5];
-    for (field, count) in FIELDS.zip([100, 100, 100, 80, 30, 5, 2]) {
+    for (field, count) in trials([100, 100, 100, 80, 30, 5, 2, 2]) {
         codes.extend((0..count).map(|_| OwnCode::random(field, random)));
     }
     for mut code in codes {

@@ -83,7 +83,7 @@ fn spoilt_calls() {
 fn bits_of_the_mask() {
     let mut random = Random(33);
     let mut codes: Vec<OwnCode> = FIELDS.map(|field| OwnCode::random(field, &mut random)).collect();
-    codes.push(OwnCode::whole(8, common::fullest_curve(&mut random), 200));
+    codes.extend(common::FIELDS_OF_256.map(|field| OwnCode::fullest(field, 200, &mut random)));
     codes.push(OwnCode::whole(6, [0, 0, 1, 0, 0], 60));
     for code in codes {
         let n = code.n();
@@ -103,7 +103,7 @@ fn bits_of_the_mask() {
 #[test]
 fn ends_of_words() {
     let mut random = Random(35);
-    let whole = OwnCode::whole(8, common::fullest_curve(&mut random), 1);
+    let whole = OwnCode::fullest(8, 1, &mut random);
     let (mut accepted, mut refused) = (0, 0);
     for n in [2, 63, 64, 65, 127, 128, 129, 191, 192, 193, 255, 256, 257, 287, 288] {
         let mut code = whole.clone();

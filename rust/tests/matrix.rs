@@ -4,7 +4,7 @@ use common::each::{listed_codes, tests_of_each};
 use common::places::{
     adds_up_to_zero, choices_of_random_codes, curve_a, daily, dependent_choice, some_places, symbols_at, usable_choice, word_of, Job, Matrix,
 };
-use common::{fullest_curve, Call, OwnCode, FIELDS};
+use common::{Call, OwnCode, FIELDS, FIELDS_OF_256};
 use vakhudle::plain::field::product;
 use vakhudle::plain::{code, Random};
 use vakhudle::{Code, WORKING_SPACE};
@@ -101,10 +101,12 @@ fn the_largest_codes() {
         at(&code, &some_places(80, 60, &mut random), &mut random);
         assert!(at(&code, &dependent_choice(&code, 99, &mut random).unwrap(), &mut random));
     }
-    code = OwnCode::whole(8, fullest_curve(&mut random), 1);
-    for k in [1, 2, 144, 200, 287] {
-        code.k = k;
-        assert!(!at(&code, &usable_choice(&code, &mut random), &mut random));
+    for field in FIELDS_OF_256 {
+        code = OwnCode::fullest(field, 1, &mut random);
+        for k in [1, 2, 144, 200, 287] {
+            code.k = k;
+            assert!(!at(&code, &usable_choice(&code, &mut random), &mut random));
+        }
     }
 }
 

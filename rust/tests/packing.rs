@@ -1,6 +1,7 @@
 //! Packing means in symbols and back, against lists of bits.
 mod common;
 use common::{above, agree, other_length, Call, OwnCode, FIELDS};
+use vakhudle::plain::field::{size, width};
 use vakhudle::plain::{fast, hours, Random};
 use vakhudle::{pack, unpack, Answer, ABSENT};
 
@@ -84,15 +85,15 @@ impl Unpack {
     }
 
     fn bits(&self) -> usize {
-        self.code.k * self.code.field as usize
+        self.code.k * width(self.code.field)
     }
 
     /// Sets the bits from `start` on, high bit first.
-    fn set(&mut self, start: usize, width: usize, number: u16) {
-        let m = self.code.field as usize;
-        for i in 0..width {
+    fn set(&mut self, start: usize, count: usize, number: u16) {
+        let m = width(self.code.field);
+        for i in 0..count {
             let (symbol, mask) = (&mut self.symbols[(start + i) / m], 1 << (m - 1 - (start + i) % m));
-            *symbol = *symbol & !mask | if number >> (width - 1 - i) & 1 == 1 { mask } else { 0 };
+            *symbol = *symbol & !mask | if number >> (count - 1 - i) & 1 == 1 { mask } else { 0 };
         }
     }
 }
@@ -104,7 +105,7 @@ impl Call for Unpack {
         match Self::ORDER[entry] {
             8 if random.once_in(2) => self.room = other_length(self.room, random),
             8 => self.symbols.resize(other_length(self.symbols.len(), random), 0),
-            11 if self.code.field == 8 => return false,
+            11 if self.code.size() == 256 => return false,
             11 => {
                 let i = random.below(self.symbols.len() as u64) as usize;
                 self.symbols[i] = above(self.code.size(), random);
@@ -152,9 +153,9 @@ fn random_round_trips() {
 #[test]
 fn every_dimension() {
     let mut random = Random(52);
-    let fullest = common::fullest_curve(&mut random);
     for field in FIELDS {
-        let mut code = OwnCode::whole(field, if field == 8 { fullest } else { [0, 0, 1, 0, 0] }, 1);
+        let curve = if size(field) == 256 { common::fullest_curve(field, &mut random) } else { [0, 0, 1, 0, 0] };
+        let mut code = OwnCode::whole(field, curve, 1);
         for k in 1..code.n() {
             code.k = k;
             round_trip(&code, &mut random);
@@ -200,7 +201,7 @@ fn every_bit_flipped() {
                 let mut flipped = call.clone();
                 flipped.symbols[i / 8] ^= 1 << (i % 8);
                 let (answer, other) = flipped.means(&mut random);
-                if i % 8 >= field as usize {
+                if i % 8 >= width(field) {
                     assert_eq!(answer, Err(11));
                 } else {
                     assert!(answer == Err(17) || answer == Ok(0) && means != other);
@@ -214,7 +215,7 @@ fn every_bit_flipped() {
 #[test]
 fn every_value() {
     let mut random = Random(56);
-    for (field, k) in [(5, 3), (3, 5), (4, 4), (8, 2)] {
+    for (field, k) in [(5, 3), (3, 5), (4, 4), (8, 2), (9, 2)] {
         let mut code = OwnCode::whole(field, [0, 0, 1, 0, 0], k);
         code.xs.truncate(k + 1);
         code.ys.truncate(k + 1);

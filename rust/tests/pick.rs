@@ -2,7 +2,7 @@
 mod common;
 use common::each::{listed_places, tests_of_each};
 use common::places::{curve_a, dependent_choice, symbols_at, Job, Pick};
-use common::{fullest_curve, OwnCode};
+use common::{OwnCode, FIELDS_OF_256};
 use std::collections::HashSet;
 use vakhudle::plain::Random;
 
@@ -30,13 +30,15 @@ fn all_codewords_over_4_elements() {
 #[test]
 fn all_288_places_ranked() {
     let random = &mut Random(68);
-    let code = OwnCode::whole(8, fullest_curve(random), 200);
-    let mut ranked = dependent_choice(&code, 99, random).unwrap();
-    let mut expected = ranked.clone();
-    let rest: Vec<u16> = (1..=288).filter(|p| !ranked.contains(p)).collect();
-    expected[199] = rest[0];
-    ranked.extend(&rest);
-    assert_eq!(Job::<Pick>::new(&code, &ranked, &[]).result(random), (Ok(0), expected));
+    for field in FIELDS_OF_256 {
+        let code = OwnCode::fullest(field, 200, random);
+        let mut ranked = dependent_choice(&code, 99, random).unwrap();
+        let mut expected = ranked.clone();
+        let rest: Vec<u16> = (1..=288).filter(|p| !ranked.contains(p)).collect();
+        expected[199] = rest[0];
+        ranked.extend(&rest);
+        assert_eq!(Job::<Pick>::new(&code, &ranked, &[]).result(random), (Ok(0), expected));
+    }
 }
 
 #[test]

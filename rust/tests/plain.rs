@@ -35,7 +35,7 @@ impl Call for Plain {
         match Self::ORDER[entry] {
             8 if random.once_in(2) => self.room = other_length(self.room, random),
             8 => self.coefficients.resize(other_length(self.coefficients.len(), random), 0),
-            11 if self.code.field == 8 => return false,
+            11 if self.code.size() == 256 => return false,
             11 => {
                 let i = random.below(self.coefficients.len() as u64) as usize;
                 self.coefficients[i] = above(self.code.size(), random);
@@ -154,11 +154,13 @@ fn single_monomials() {
 #[test]
 fn all_288_points() {
     let mut random = Random(27);
-    let mut code = OwnCode::whole(8, common::fullest_curve(&mut random), 1);
-    for k in [1, 2, 3, 4, 5, 143, 144, 200, 286, 287] {
-        code.k = k;
-        Plain::random(code.clone(), &mut random).run(&mut random).unwrap();
-        common::spoil_all(&Plain::random(code.clone(), &mut random), &mut random);
+    for field in common::FIELDS_OF_256 {
+        let mut code = OwnCode::fullest(field, 1, &mut random);
+        for k in [1, 2, 3, 4, 5, 143, 144, 200, 286, 287] {
+            code.k = k;
+            Plain::random(code.clone(), &mut random).run(&mut random).unwrap();
+            common::spoil_all(&Plain::random(code.clone(), &mut random), &mut random);
+        }
     }
 }
 

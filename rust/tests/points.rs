@@ -1,6 +1,7 @@
 //! Points against a search over all (X, Y).
 mod common;
 use common::{above, any_curve, Call, Lent, FIELDS};
+use vakhudle::plain::field::size;
 use vakhudle::plain::{curve, fast, Random};
 use vakhudle::{points, Answer, MOST_POINTS};
 
@@ -37,9 +38,9 @@ impl Call for Points {
 
     fn spoil(&mut self, entry: usize, random: &mut Random) -> bool {
         match Self::ORDER[entry] {
-            1 => self.field = random.pick(&[0, 1, 9, 10, 128, 255]),
-            2 if self.field == 8 => return false,
-            2 => self.curve[random.below(5) as usize] = above(1 << self.field, random),
+            1 => self.field = random.pick(&[0, 1, 10, 11, 128, 255]),
+            2 if size(self.field) == 256 => return false,
+            2 => self.curve[random.below(5) as usize] = above(size(self.field), random),
             3 => self.curve = common::curve_that(true, self.field, random),
             _ => self.lengths[random.below(2) as usize] = random.pick(&[0, 1, 7, 8, 80, 224, 287, 289, 290, 576]),
         }
@@ -102,15 +103,17 @@ fn every_field_number() {
 #[test]
 fn the_fullest_and_the_emptiest_curves_over_256_elements() {
     let mut random = Random(15);
-    let curve = common::fullest_curve(&mut random);
-    let (answer, written) = run(8, curve, [MOST_POINTS; 2], &mut random);
-    assert_eq!((answer, written.len()), (Ok(288), 288));
-    assert!(written.windows(2).all(|p| p[0] < p[1]));
-    let emptiest = (0..2000).find(|_| {
-        let curve = [0, 0, random.between(1, 255) as u8, random.next() as u8, random.next() as u8];
-        run(8, curve, [MOST_POINTS; 2], &mut random).0 == Ok(224)
-    });
-    assert!(emptiest.is_some());
+    for field in common::FIELDS_OF_256 {
+        let curve = common::fullest_curve(field, &mut random);
+        let (answer, written) = run(field, curve, [MOST_POINTS; 2], &mut random);
+        assert_eq!((answer, written.len()), (Ok(288), 288));
+        assert!(written.windows(2).all(|p| p[0] < p[1]));
+        let emptiest = (0..2000).find(|_| {
+            let curve = [0, 0, random.between(1, 255) as u8, random.next() as u8, random.next() as u8];
+            run(field, curve, [MOST_POINTS; 2], &mut random).0 == Ok(224)
+        });
+        assert!(emptiest.is_some());
+    }
 }
 
 #[test]

@@ -1,6 +1,7 @@
 //! Job sheets, whole and damaged, against plain Rust.
 mod common;
 use common::Lent;
+use vakhudle::plain::field::size;
 use vakhudle::plain::{sheet as plain, Random};
 use vakhudle::{sheet, SHEET_ROOM};
 
@@ -23,8 +24,8 @@ fn numbers(random: &mut Random, count: usize, most: u64) -> String {
 
 /// A sheet whose numbers are mostly in range.
 fn any_sheet(random: &mut Random) -> String {
-    let field = 2 + random.below(7);
-    let above = if random.once_in(8) { 70_000 } else { 1 << field };
+    let field = random.between(2, 9) as u8;
+    let above = if random.once_in(8) { 70_000 } else { size(field) as u64 };
     let k = 1 + random.below(6) as usize;
     let places = if random.once_in(8) { numbers(random, k, 300) } else { (0..k).map(|i| (1 + i * 2).to_string()).collect::<Vec<_>>().join(",") };
     format!("field={field}\ncurve={}\ndimension={k}\nplaces={places}\nmessage={}\n", numbers(random, 5, above), numbers(random, k, above))
@@ -33,6 +34,21 @@ fn any_sheet(random: &mut Random) -> String {
 #[test]
 fn case_of_document_01() {
     assert_eq!(compare(CASE.as_bytes(), &mut Random(1)), "answer=0\nfunction=1,0,1,2,3\nword=1,0,0,2,0,0,3,0\n");
+}
+
+/// Numbers 2 to 9 are fields; 265 is not 9, and 258 is not 2. From 65,536 on it is no number of a sheet.
+#[test]
+fn field_numbers() {
+    let mut random = Random(8);
+    for field in (0..300).chain([511, 512, 521, 32_777, 65_535, 65_536, 65_545]) {
+        let sheet = CASE.replacen("field=2", &format!("field={field}"), 1);
+        let answer = compare(sheet.as_bytes(), &mut random);
+        match field {
+            2..=9 => assert!(answer != "answer=1\n" && answer != "answer=20\n", "{field}: {answer}"),
+            0..=65_535 => assert_eq!(answer, "answer=1\n", "{field}"),
+            _ => assert_eq!(answer, "answer=20\n", "{field}"),
+        }
+    }
 }
 
 #[test]

@@ -16,7 +16,7 @@ use Rattle.basics.proofs.Lists.{both-left, both-right, both-true}
 use Rattle.basics.proofs.Outcomes.{passed}
 use Rattle.field.specs.Field.{Field}
 use Rattle.field.specs.Galois.{isField, IsField}
-use Rattle.field.proofs.Galois.{galois-field}
+use Rattle.field.proofs.Galois.{is-field, galois-field}
 use Rattle.elliptic.specs.declared.Point.{Point}
 use Rattle.elliptic.specs.Curve.{samePoint, inField, onCurve, singular}
 use Rattle.elliptic.proofs.Points.{On, Points, Differ, All, Distinct, Distinct.nil, Distinct.cons, all-map}
@@ -128,7 +128,7 @@ module _ (code : Code) where
   accepted-if t =
       let range = both-right (eqb (length (code .xs)) (length (code .ys))) _ (t .count) in
       record {
-        field = (leb-true 2 _ (both-left (leb 2 (code .field)) _ (t .field)), leb-true _ 8 (both-right (leb 2 (code .field)) _ (t .field)));
+        field = is-field (code .field) (t .field);
         coefficients = all-map (λ g h. ltb-true g _ h) (all-true (λ g. ltb g (q code)) (coefficientsOf (code .curve)) (t .coefficients));
         smooth = not-true _ (t .smooth);
         lengths = eqb-true _ _ (both-left (eqb (length (code .xs)) (length (code .ys))) _ (t .count));

@@ -58,9 +58,11 @@ pub fn fields() {
     line(6, try_curves(6, 600, 48));
     line(7, try_curves(7, 600, 48));
     line(8, try_curves(8, 600, 48));
+    line(9, try_curves(9, 600, 48));
 }
 
 pub fn large() {
     line(7, try_curves(7, 30, 288));
     line(8, try_curves(8, 30, 288));
+    line(9, try_curves(9, 30, 288));
 }

@@ -6,7 +6,7 @@ use mathlib.Core.Logic.{_↔_}
 use mathlib.Core.List.{List, [], _∷_}
 use native.Mathlib.Nat.{zero-mul}
 use native.Mathlib.Omega.{arith}
-use lib.Dec.{eqb, eqb→eq}
+use lib.Dec.{eqb}
 use lib.IntN.{ℤ}
 use lib.ListN.{length, replicate, drop, length-replicate}
 use borrow.Author.Tests.{eqb-true, eq-eqb}
@@ -19,8 +19,8 @@ use Rattle.basics.specs.Outcome.{Outcome, refused, accepted, counted, answer, l
 use Rattle.basics.proofs.BitLists.{zero-join}
 use Rattle.basics.proofs.Lists.{both-left, both-right, both-true, all-replicate, all-take, all-drop, length-table, table-as, is-table, getD-zeros}
 use Rattle.basics.proofs.Outcomes.{passed}
-use Rattle.field.specs.Galois.{rows, width, IsField, size}
-use Rattle.field.proofs.Computed.{allBelow, each-field}
+use Rattle.field.specs.Galois.{width, size}
+use Rattle.field.proofs.Galois.{row-facts}
 use Rattle.codewords.specs.Code.{Code, codeAnswer}
 use Rattle.codewords.specs.Codewords.{symbols, message}
 use Rattle.codewords.proofs.Tests.{fails, not-both}
@@ -28,12 +28,8 @@ use Rattle.codewords.proofs.Accepted.{accepted-done}
 use Rattle.hours.specs.Packing.{capacity, packOutcome, unpackOutcome, packed, unpacked, clean, stream, Writes}
 use Rattle.hours.proofs.Unpacking.{packed-words, unpack-pack, pack-unpack, clean-exactly}
 use Rattle.demands.specs.Blocks.{Blocks, Packs, Unpacks}
+use Rattle.demands.proofs.Fields.{width-low, elements-9}
 use Rattle.demands.proofs.Passing.{Decided, decided, accepted-on, on, code-on}
-
--- the width of field m is m, by a test of all fields
-width-is : (m : ℕ) → IsField m → width m ≡ m
-unfolding allBelow width rows
-width-is m h = eqb→eq (width m) m (each-field (λ m. eqb (width m) m) tt h)
 
 -- a call that is done leaves what is accepted
 pub done-accepted : {M : Type 0} (o : Outcome M) {old new : M} → Meets o Done old new → o ≡ accepted new
@@ -73,7 +69,7 @@ module _ (code : Code) (done : codeAnswer code ≡ Done) where
   w = width (code .field)
 
   small : w ≤ 15
-  small = let f = accepted-done code done .field in omega (arith, width-is (code .field) f, f .1)
+  small = omega (arith, row-facts (accepted-done code done .field) .narrow)
 
   -- what Pack was given and gave, and Unpack
   packed-by : (means : List ℤ) (old block : List ℕ) → Packs code means Done old block
@@ -147,7 +143,8 @@ module _ (code : Code) (done : codeAnswer code ≡ Done) where
 pub blocks : (code : Code) → codeAnswer code ≡ Done → Blocks code
 blocks code done =
     record {
-      bits-m = width-is (code .field) (accepted-done code done .field);
+      bits-m = width-low (accepted-done code done .field);
+      bits-8 = λ e. ap width e ∙ elements-9 .0;
       unpacked = unpacks code done;
       packed = packs code done;
       never-17 = never code done;

@@ -3,6 +3,7 @@ mod Passing
 mod Ones
 mod Rows
 mod Order
+pub mod Fields
 pub mod Blocks
 pub mod Hours
 pub mod Masks

@@ -1,5 +1,5 @@
--- Pack and Unpack as calls: each undoes the other, 17 is what Pack never writes, and a symbol of field m takes m bits.
-use Prim.Native.Nat.{ℕ}
+-- Pack and Unpack as calls: each undoes the other, 17 is what Pack never writes, and a symbol of field m takes m bits, of field 9 it takes 8.
+use Prim.Native.Nat.{ℕ, _≤_}
 use mathlib.Core.Path.{_≡_}
 use mathlib.Core.Bool.{true}
 use mathlib.Core.Logic.{_↔_}
@@ -26,8 +26,9 @@ module _ (code : Code) where
   Unpacks block r old new = Meets (unpackBlockOutcome code block (length old)) r old new
 
   pub record Blocks : Type 0 where
-    -- "symbols take m bits each"
-    pub bits-m : width (code .field) ≡ code .field
+    -- "symbols take m bits each", and of field number 9 "m is 8 for it"
+    pub bits-m : code .field ≤ 8 → width (code .field) ≡ code .field
+    pub bits-8 : code .field ≡ 9 → width (code .field) ≡ 8
     -- "Unpack: the reverse": of a block that Pack wrote, and the other way
     pub unpacked : (means : List ℤ) (old block : List ℕ) (r : Answer) (old′ new : List ℤ) → Packs means Done old block → Unpacks block r old′ new
         → length old′ ≡ length means → (r ≡ Done) × (new ≡ means)

@@ -1,6 +1,7 @@
 -- The three demands and the requests since, as statements about calls of the operations.
 pub mod Call
 pub mod Order
+pub mod Fields
 pub mod Demand1
 pub mod Demand2
 pub mod Demand3

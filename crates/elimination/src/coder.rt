@@ -6,6 +6,7 @@ use crate::equations::solve;
 use crate::slices::inner_product;
 use crate::slices::monomials;
 use basics::short::wide;
+use field::is_field;
 use field::logarithms;
 use field::powers;
 ghost use mathlib.Core.Path.{_≡_};
@@ -192,10 +193,7 @@ pub fn eliminate(
     rows: &mut [u8],
     marks: &mut [u8],
 ) -> bool {
-    if m < 2 {
-        return false;
-    }
-    if m > 8 {
+    if !is_field(m) {
         return false;
     }
     if k > 288 {
@@ -220,10 +218,7 @@ pub fn eliminate(
 // The function that the equations give, or with `right` false the one that they give if every symbol is 0; a free coefficient is 1.
 // False if a length or the field number is wrong.
 pub fn solution(m: u8, rows: &[u8], right: bool, function: &mut [u8]) -> bool {
-    if m < 2 {
-        return false;
-    }
-    if m > 8 {
+    if !is_field(m) {
         return false;
     }
     if function.len() > 288 {
@@ -277,10 +272,7 @@ fn fill_word(
 
 // The word of a function. False if a length or the field number is wrong.
 pub fn word(m: u8, xs: &[u8], ys: &[u8], function: &[u8], out: &mut [u8]) -> bool {
-    if m < 2 {
-        return false;
-    }
-    if m > 8 {
+    if !is_field(m) {
         return false;
     }
     let k = function.len();

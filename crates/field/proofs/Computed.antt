@@ -60,23 +60,21 @@ tabulate-at f i (suc n) (suc k) h = tabulate-at f (suc i) n k (le-of-suc-le-suc 
 
 -- ---- tables in the code, by field number
 
--- THE TEST of two rows in the code, those of the field numbers 2k and 2k + 1: the row of a field is, entry by entry, what the rule gives for its number
+-- THE TEST of two rows in the code, those of the field numbers 2k and 2k + 1: each is, entry by entry, what the rule gives for its number
 unfoldable pub rowsTest : (ℕ → List ℕ) → ℕ → List (List ℕ) → Bool
-rowsTest rule k pair = allBelow (λ b. not (ltb (k + k + b) (length rows)) || same (rule (k + k + b)) (getD pair b [])) 2
+rowsTest rule k pair = allBelow (λ b. same (rule (k + k + b)) (getD pair b [])) 2
 
 -- so a row of two that pass it, read at the lowest bit of a field number, is the rule's
-pub tested : (rule : ℕ → List ℕ) (k : ℕ) (pair : List (List ℕ)) → T (rowsTest rule k pair) → {i m : ℕ} → i ≡ m % 2 → m / 2 ≡ k → IsField m → getD pair i [] ≡ rule m
-unfolding rowsTest rows
-tested rule k pair t {i} {m} e h f =
+pub tested : (rule : ℕ → List ℕ) (k : ℕ) (pair : List (List ℕ)) → T (rowsTest rule k pair) → {i m : ℕ} → i ≡ m % 2 → m / 2 ≡ k → getD pair i [] ≡ rule m
+unfolding rowsTest
+tested rule k pair t {i} {m} e h =
     let number : k + k + m % 2 ≡ m = omega arith in
-    let passed = below (λ b. not (ltb (k + k + b) (length rows)) || same (rule (k + k + b)) (getD pair b [])) 2 t (m % 2) (omega arith) in
-    ap (λ n. getD pair n []) e
-    ∙ sym (same-true (rule m) (getD pair (m % 2) []) (holds _ _ (lt-ltb m (length rows) (omega arith)) (subst (λ n. T (not (ltb n (length rows)) || same (rule n) (getD pair (m % 2) []))) number passed)))
+    let passed = below (λ b. same (rule (k + k + b)) (getD pair b [])) 2 t (m % 2) (omega arith) in
+    ap (λ n. getD pair n []) e ∙ sym (same-true (rule m) (getD pair (m % 2) []) (holds _ (subst (λ n. T (same (rule n) (getD pair (m % 2) []))) number passed)))
   where
-    holds : (a b : Bool) → a ≡ true → T (not a || b) → b ≡ true
-    holds true true q t = refl
-    holds true false q t = absurd t
-    holds false b q t = absurd (let z : _≡_ {A = ℕ} 0 1 = cc in omega arith)
+    holds : (b : Bool) → T b → b ≡ true
+    holds true t = refl
+    holds false t = absurd t
 
 -- the same of a list of numbers by field number
 unfoldable pub numbersTest : (ℕ → ℕ) → List ℕ → Bool

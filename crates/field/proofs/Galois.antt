@@ -1,7 +1,7 @@
 -- Every field number's row is a field: the laws by theory, over a modulus, a width and a generator, and what the rows themselves must show,
 -- for all of them, by tests that antt computes.
 use mathlib.Core.Path.{_≡_, refl, sym, ap, _∙_}
-use mathlib.Core.Bool.{Bool, true, cond, _&&_, _||_}
+use mathlib.Core.Bool.{Bool, true, false, cond, _&&_, _||_}
 use Prim.Native.Nat.{ℕ, _+_, _-_, _/_, _^_, _≤_, _<_}
 use native.Mathlib.Nat.{zero-add}
 use native.Mathlib.Omega.{arith}
@@ -20,10 +20,18 @@ use Rattle.field.proofs.Generator.{Generator, generated}
 
 -- the test of a field number and the statement
 pub is-field : (m : ℕ) → isField m ≡ true → IsField m
-is-field m e = let t = both (leb 2 m) (leb m 8) e in (leb-true 2 m (t .0), leb-true m 8 (t .1))
+is-field m e = let t = both (leb 2 m) _ e in (leb-true 2 m (t .0), leb-true m _ (t .1))
 
 pub field-true : {m : ℕ} → IsField m → isField m ≡ true
-field-true {m} (least, most) = both-true (leb 2 m) (leb m 8) (le-leb 2 m least) (le-leb m 8 most)
+field-true {m} (least, most) = both-true (leb 2 m) _ (le-leb 2 m least) (le-leb m _ most)
+
+-- a field number is a byte
+pub no-field : (m : ℕ) → 256 ≤ m → isField m ≡ false
+no-field m h = by (isField m) refl
+  where
+    by : (b : Bool) → isField m ≡ b → b ≡ false
+    by false e = refl
+    by true e = absurd (omega (arith, h, is-field m e .1))
 
 -- ---- the tests
 

@@ -2,7 +2,7 @@
 pub mod Sum
 mod Horner
 mod Polynomial
-mod Ring
+pub mod Ring
 mod Remainders
 pub mod Field
 mod Generator

@@ -39,7 +39,7 @@ const NONE: u16 = 510;
 pub fn is_field(m: u8) -> bool
     ensures { λ r. ⌜ r ≡ isField m ⌝ }
 {
-    2 <= m && m <= 8
+    2 <= m && m <= 9
 }
 
 pub fn modulus(m: u8) -> u16

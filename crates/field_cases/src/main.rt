@@ -1,4 +1,5 @@
-// Known facts of every field, computed by the tables: the order of the element 2, products, inverses, and a sum over the whole product table.
+// Known facts of every field, computed by the tables: the orders of the elements 2 and 3, products, inverses, and a sum over the whole product table.
+// In field 9 the order of 2 is 51; its other products are known from outside.
 // The file `stdout` beside this folder has what they must be.
 ghost use Prim.Native.Nat.{_*_};
 ghost use Rattle.field.specs.Galois.{IsField};
@@ -6,16 +7,16 @@ ghost use Rattle.field.specs.Tables.{Tables};
 use io::print_decimal;
 use libc::STDOUT_FILENO;
 
-// After how many factors 2 the power is 1 again: at most 255.
-fn order_of_two(m: u8, powers: &[u8; 1021], logs: &[u16; 512]) -> u64
+// After how many factors g the power is 1 again: at most 255.
+fn order(m: u8, powers: &[u8; 1021], logs: &[u16; 512], g: u8) -> u64
     requires { ⌜ Tables m (now powers) (now logs) ⌝ }
 {
-    let mut a: u8 = 2;
+    let mut a = g;
     for n in 1..256 {
         if a == 1 {
             return n;
         }
-        a = field::product(m, powers, logs, a, 2);
+        a = field::product(m, powers, logs, a, g);
     }
     0
 }
@@ -81,7 +82,8 @@ fn products(m: u8, powers: &[u8; 1021], logs: &[u16; 512])
 fn tables(m: u8, powers: &[u8; 1021], logs: &[u16; 512])
     requires { ⌜ Tables m (now powers) (now logs) ⌝ }
 {
-    show(b", order of 2 ", order_of_two(m, powers, logs));
+    show(b", order of 2 ", order(m, powers, logs, 2));
+    show(b", order of 3 ", order(m, powers, logs, 3));
     products(m, powers, logs);
     show(b", inverses ", inverses(m, powers, logs));
     show(b", table ", table_sum(m, powers, logs));
@@ -97,8 +99,28 @@ fn facts(m: u8)
     io::write_all(STDOUT_FILENO, b"\n");
 }
 
+// The examples of the standard in which this field is best known (FIPS 197), in hexadecimal: 53·CA = 01, 57·83 = C1, 57·13 = FE.
+fn standard_products() {
+    let powers = field::powers(9);
+    let logs = field::logarithms(9);
+    show(
+        b"field 9: 83*202 ",
+        field::product(9, &powers, &logs, 0x53, 0xCA) as u64,
+    );
+    show(
+        b", 87*131 ",
+        field::product(9, &powers, &logs, 0x57, 0x83) as u64,
+    );
+    show(
+        b", 87*19 ",
+        field::product(9, &powers, &logs, 0x57, 0x13) as u64,
+    );
+    io::write_all(STDOUT_FILENO, b"\n");
+}
+
 fn main() {
-    for m in 2..=8 {
+    for m in 2..=9 {
         facts(m);
     }
+    standard_products();
 }

@@ -73,9 +73,11 @@ pub fn fields() {
     field(6, 600, 48);
     field(7, 600, 48);
     field(8, 600, 48);
+    field(9, 600, 48);
 }
 
 pub fn large() {
     field(7, 12, 288);
     field(8, 8, 288);
+    field(9, 8, 288);
 }

@@ -64,9 +64,11 @@ pub fn random_codes() {
     line(6, try_curves(6, 600, 48));
     line(7, try_curves(7, 600, 48));
     line(8, try_curves(8, 600, 48));
+    line(9, try_curves(9, 600, 48));
 }
 
 pub fn large_codes() {
     line(7, try_curves(7, 12, 288));
     line(8, try_curves(8, 8, 288));
+    line(9, try_curves(9, 8, 288));
 }

@@ -6,8 +6,8 @@ use mathlib.Core.Path.{_≡_, refl, sym, _∙_, ap, subst}
 use mathlib.Core.List.{List, [], _∷_, _++_, map}
 use native.Mathlib.Omega.{arith}
 use native.Mathlib.Numerals.{add-one}
-use borrow.Author.Tests.{eq-eqb, le-leb, lt-leb, lt-ltb, ltb-true, leb-true}
-use lib.Dec.{leb, ltb}
+use borrow.Author.Tests.{eq-eqb, le-leb, lt-ltb, ltb-true}
+use lib.Dec.{ltb}
 use lib.ListN.{length, getD, take, drop, set}
 use lib.Seq.{take-suc, take-suc-set, take-all, take-at}
 use Rattle.basics.specs.declared.Refusal.{Refusal}
@@ -18,7 +18,7 @@ use Rattle.basics.specs.Lists.{all, written}
 use Rattle.basics.specs.Outcome.{Outcome, accepted, counted, check, answer, left, counts, Meets}
 use Rattle.basics.proofs.Lists.{all-weaker, both}
 use Rattle.basics.proofs.Outcomes.{check-true}
-use Rattle.field.specs.Galois.{IsField, isField, size, galois}
+use Rattle.field.specs.Galois.{IsField, size, galois}
 use Rattle.field.proofs.Galois.{size-le}
 use Rattle.elliptic.specs.declared.Curve.{Curve}
 use Rattle.elliptic.specs.declared.Point.{Point}
@@ -165,12 +165,6 @@ module _ (p : Parameters) {xs ys xs′ ys′ : List ℕ} {r : Answer} (met : Mee
   points-y = rw (ap (λ x. x .1) (is-counted .1)) (take-at (listedY p) _ n (length-mapped (λ P. P .y) (affinePoints (galois (p .field)) (p .curve)) ∙ sym (is-counted .0)))
 
 -- ---- numbers that are too large for a byte
-
-pub no-field : (m : ℕ) → 256 ≤ m → isField m ≡ false
-no-field m h = let a : 2 ≤ m = omega arith in let b : 8 < m = omega arith in rw (le-leb 2 m a, lt-leb m 8 b)
-
-pub field-of : (m : ℕ) → isField m ≡ true → IsField m
-field-of m e = let t = both (leb 2 m) (leb m 8) e in (leb-true 2 m (t .0), leb-true m 8 (t .1))
 
 pub too-large : (m : ℕ) (C : Curve) → IsField m → coefficientsBelow 256 C ≡ false → coefficientsBelow (size m) C ≡ false
 too-large m C f e = by (coefficientsBelow (size m) C) refl

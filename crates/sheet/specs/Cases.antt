@@ -1,9 +1,9 @@
--- Document 01's case, whole, and short sheets that are refused.
+-- Document 01's case, whole, short sheets that are refused, and field numbers.
 use Prim.Native.Nat.{ℕ, _+_}
 use Prim.Native.String.{String}
 use mathlib.Core.Bool.{Bool, true, false}
 use mathlib.Core.Path.{_≡_}
-use mathlib.Core.List.{List, [], _∷_, _++_}
+use mathlib.Core.List.{List, [], _∷_, _++_, map}
 use lib.ListN.{replicate, take, drop}
 use Rattle.basics.specs.Lists.{all}
 use Rattle.text.specs.Text.{bytes}
@@ -78,6 +78,14 @@ abbrev pub isBad : Read Sheet → Bool
 isBad bad = true
 isBad (got job rest) = false
 
+-- the answers of a sheet with each of these for its field number (request S-4): 265 is not 9
+unfoldable pub outsideFields : List (List ℕ)
+outsideFields = map (λ l. answerTo (butFor 0 l)) ("field=0\n" ∷ "field=1\n" ∷ "field=10\n" ∷ "field=256\n" ∷ "field=265\n" ∷ "field=65535\n" ∷ [])
+
+-- a sheet of field 9 whose third coefficient is not below q = 256
+unfoldable pub withField9 : List ℕ
+withField9 = textOf ("field=9\n" ∷ "curve=0,0,256,0,0\n" ∷ drop 2 caseLines)
+
 -- a sheet with so many places
 unfoldable pub withPlaces : ℕ → List ℕ
 withPlaces n = sheetText (record { head = caseJob .head; places = replicate n 1; message = 1 ∷ [] })
@@ -89,5 +97,8 @@ pub record SheetCases : Type 0 where
   -- "a list that is empty or above 288 numbers"
   pub most-places : isBad (sheet (withPlaces 288)) ≡ false
   pub too-many-places : isBad (sheet (withPlaces 289)) ≡ true
+  -- "Refusal 1 is given outside 2 to 9, and the job sheet accepts field=9": what is wrong with that sheet is the coefficient
+  pub no-field : outsideFields ≡ replicate 6 (bytes "answer=1\n")
+  pub field-9 : answerTo withField9 ≡ bytes "answer=2\n"
   -- no byte at all
   pub nothing : answerTo [] ≡ misshapen

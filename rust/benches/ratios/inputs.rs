@@ -1,4 +1,5 @@
 //! Inputs of which no two are alike: a code on another curve with its points in another order, other places, another message.
+use vakhudle::plain::field::{size, width};
 use vakhudle::plain::{fast, Random};
 use vakhudle::{Code, ABSENT, MASK_BYTES, MOST_POINTS, WORKING_SPACE};
 
@@ -18,7 +19,7 @@ impl Kind {
     }
 
     pub fn hours(&self) -> usize {
-        self.k * self.field as usize / 15
+        self.k * width(self.field) / 15
     }
 }
 
@@ -117,7 +118,7 @@ pub fn wrong_word(kind: &Kind, code: &OwnCode, errors: usize, random: &mut Rando
     let mut word = word(kind, code, random);
     let mut indices: Vec<usize> = (0..kind.n).collect();
     random.shuffle(&mut indices);
-    indices[..errors].iter().for_each(|&i| word[i] ^= random.between(1, (1 << kind.field) - 1) as u8);
+    indices[..errors].iter().for_each(|&i| word[i] ^= random.between(1, size(kind.field) as i64 - 1) as u8);
     word
 }
 

@@ -185,6 +185,7 @@ fn main() {
     bench.heading();
     products(&bench, 6, 1000);
     products(&bench, 8, 100);
+    products(&bench, 9, 100);
     points(&bench, small, Some(3.0));
     points(&bench, large, None);
     for (kind, bar) in [(small, 2.0), (large, 3.0)] {

@@ -1,6 +1,6 @@
 //! Codes: their test, plain coding, and the heard places.
 use super::curve::{self, on_curve};
-use super::field::{power, product};
+use super::field::{power, product, size};
 use crate::{Answer, Code, MASK_BYTES, MOST_POINTS};
 
 /// The tests 1 to 7.
@@ -11,7 +11,7 @@ pub fn check(code: &Code) -> Result<(), u8> {
     if n != ys.len() || !(2..=MOST_POINTS).contains(&n) {
         return Err(4);
     }
-    let outside = |a: u8| a as usize >= 1 << field;
+    let outside = |a: u8| a as usize >= size(field);
     if (0..n).any(|i| outside(xs[i]) || outside(ys[i]) || !on_curve(field, curve, xs[i], ys[i])) {
         return Err(5);
     }
@@ -44,7 +44,7 @@ pub fn plain(code: &Code, coefficients: &[u8], symbols_out: &mut [u8]) -> Answer
     if coefficients.len() != code.k || symbols_out.len() != code.xs.len() {
         return Err(8);
     }
-    if coefficients.iter().any(|&c| c as usize >= 1 << code.field) {
+    if coefficients.iter().any(|&c| c as usize >= size(code.field)) {
         return Err(11);
     }
     for (i, s) in symbols_out.iter_mut().enumerate() {

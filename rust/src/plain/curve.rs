@@ -1,5 +1,5 @@
 //! Curves and their points, by searching all (X, Y).
-use super::field::{is_field, power, product};
+use super::field::{is_field, power, product, size};
 use crate::{Answer, MOST_POINTS};
 
 /// Y² + g1·XY + g3·Y = X³ + g2·X² + g4·X + g6.
@@ -10,7 +10,7 @@ pub fn on_curve(field: u8, [g1, g2, g3, g4, g6]: [u8; 5], x: u8, y: u8) -> bool 
 
 /// Every element of the field.
 pub fn elements(field: u8) -> impl Iterator<Item = u8> {
-    (0..1u16 << field).map(|a| a as u8)
+    (0..size(field)).map(|a| a as u8)
 }
 
 /// Some (X, Y) lies on the curve with g1·X + g3 = 0 and g1·Y + X² + g4 = 0.
@@ -25,7 +25,7 @@ pub fn check(field: u8, curve: [u8; 5]) -> Result<(), u8> {
     if !is_field(field) {
         return Err(1);
     }
-    if curve.iter().any(|&g| g as usize >= 1 << field) {
+    if curve.iter().any(|&g| g as usize >= size(field)) {
         return Err(2);
     }
     if is_singular(field, curve) {

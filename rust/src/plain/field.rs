@@ -1,16 +1,30 @@
 //! Fields by polynomial arithmetic, and by tables built from it.
 use std::sync::OnceLock;
 
-/// The modulus of each field number from 2 on.
-pub const MODULI: [u16; 7] = [0x7, 0xB, 0x13, 0x25, 0x43, 0x89, 0x11D];
+/// The modulus of each field number from 2 on, the bits of a symbol, and an element whose powers are all others but 0.
+const ROWS: [(u32, u32, u8); 8] = [(0x7, 2, 2), (0xB, 3, 2), (0x13, 4, 2), (0x25, 5, 2), (0x43, 6, 2), (0x89, 7, 2), (0x11D, 8, 2), (0x11B, 8, 3)];
 
 pub fn is_field(field: u8) -> bool {
-    (2..=8).contains(&field)
+    (2..=9).contains(&field)
+}
+
+const fn row(field: u8) -> (u32, u32, u8) {
+    ROWS[field as usize - 2]
+}
+
+/// The bits of a symbol.
+pub const fn width(field: u8) -> usize {
+    row(field).1 as usize
+}
+
+/// The number of elements.
+pub const fn size(field: u8) -> usize {
+    1 << width(field)
 }
 
 /// The product of two polynomials over GF(2), reduced by the field's modulus, one bit at a time.
 pub const fn slow_product(field: u8, a: u8, b: u8) -> u8 {
-    let modulus = MODULI[field as usize - 2] as u32;
+    let (modulus, width, _) = row(field);
     let mut r = 0u32;
     let mut i = 0;
     while i < 8 {
@@ -20,9 +34,9 @@ pub const fn slow_product(field: u8, a: u8, b: u8) -> u8 {
         i += 1;
     }
     let mut i = 15;
-    while i >= field as u32 {
+    while i >= width {
         if r >> i & 1 == 1 {
-            r ^= modulus << (i - field as u32);
+            r ^= modulus << (i - width);
         }
         i -= 1;
     }
@@ -31,10 +45,10 @@ pub const fn slow_product(field: u8, a: u8, b: u8) -> u8 {
 
 /// The product of two symbols. All of a field's products are found once by `slow_product`, so that searches over all points stay quick.
 pub fn product(field: u8, a: u8, b: u8) -> u8 {
-    static PRODUCTS: [OnceLock<Vec<u8>>; 7] = [const { OnceLock::new() }; 7];
-    let all = PRODUCTS[field as usize - 2]
-        .get_or_init(|| (0..1usize << (2 * field)).map(|i| slow_product(field, (i >> field) as u8, (i & ((1 << field) - 1)) as u8)).collect());
-    all[(a as usize) << field | b as usize]
+    static PRODUCTS: [OnceLock<Vec<u8>>; ROWS.len()] = [const { OnceLock::new() }; ROWS.len()];
+    let q = size(field);
+    let all = PRODUCTS[field as usize - 2].get_or_init(|| (0..q * q).map(|i| slow_product(field, (i / q) as u8, (i % q) as u8)).collect());
+    all[a as usize * q + b as usize]
 }
 
 /// `a` to the power `n`, by squaring; the power 0 is 1.
@@ -70,7 +84,7 @@ impl Field {
         let mut powers = [0; 1024];
         let mut logs = [LOG_OF_ZERO; 256];
         let mut inverse_logs = [LOG_OF_ZERO; 256];
-        let order = (1 << number) - 1;
+        let (order, generator) = (size(number) - 1, row(number).2);
         let mut power = 1;
         let mut i = 0;
         while i < 510 {
@@ -79,14 +93,14 @@ impl Field {
                 logs[power as usize] = i as u16;
                 inverse_logs[power as usize] = (order - i) as u16;
             }
-            power = slow_product(number, power, 2);
+            power = slow_product(number, power, generator);
             i += 1;
         }
         Field { number, powers, logs, inverse_logs }
     }
 
     pub fn size(&self) -> usize {
-        1 << self.number
+        size(self.number)
     }
 
     #[inline]

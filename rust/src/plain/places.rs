@@ -2,7 +2,7 @@
 //! its monomial there.
 use super::code::{check, monomial, value};
 use super::curve::elements;
-use super::field::{power, product};
+use super::field::{power, product, size};
 use crate::{Answer, Code, WORKING_SPACE};
 
 /// Equations in k unknowns, each solved for one of them, its pivot, which no other equation has. A row is k factors and the right side.
@@ -26,7 +26,7 @@ impl Equations {
         let Some(pivot) = row[..self.k].iter().position(|&c| c != 0) else {
             return (false, row[self.k] == 0);
         };
-        let inverse = power(self.field, row[pivot], (1 << self.field) - 2);
+        let inverse = power(self.field, row[pivot], size(self.field) - 2);
         row.iter_mut().for_each(|c| *c = product(self.field, inverse, *c));
         for (_, other) in &mut self.solved {
             clear(self.field, other, pivot, &row);
@@ -82,7 +82,7 @@ pub fn only_zero_function(code: &Code, places: &[u16]) -> Option<Vec<u8>> {
         function[*pivot] = row[free];
     }
     let leading = *function.iter().rfind(|&&c| c != 0)?;
-    let inverse = power(code.field, leading, (1 << code.field) - 2);
+    let inverse = power(code.field, leading, size(code.field) - 2);
     Some(function.iter().map(|&c| product(code.field, inverse, c)).collect())
 }
 
@@ -120,7 +120,7 @@ fn check_places(code: &Code, places: &[u16]) -> Result<(), u8> {
 
 /// The test 11.
 fn check_symbols(code: &Code, symbols: &[u8]) -> Result<(), u8> {
-    if symbols.iter().any(|&s| s as usize >= 1 << code.field) {
+    if symbols.iter().any(|&s| s as usize >= size(code.field)) {
         return Err(11);
     }
     Ok(())
@@ -180,7 +180,7 @@ pub fn matrix(code: &Code, places: &[u16], symbols_out: &mut [u8], work: &mut [u
         let column = p as usize - 1;
         let found = (i..k).find(|&j| rows[j][column] != 0).ok_or(12)?;
         rows.swap(i, found);
-        let inverse = power(field, rows[i][column], (1 << field) - 2);
+        let inverse = power(field, rows[i][column], size(field) - 2);
         rows[i].iter_mut().for_each(|c| *c = product(field, inverse, *c));
         let row = rows[i].clone();
         for j in (0..k).filter(|&j| j != i) {

@@ -1,4 +1,5 @@
 //! Pseudo-random numbers.
+use super::field::size;
 
 /// A generator with a fixed seed (splitmix64), so that every run tries the same inputs.
 pub struct Random(pub u64);
@@ -38,6 +39,6 @@ impl Random {
 
     /// `n` symbols of a field.
     pub fn symbols(&mut self, field: u8, n: usize) -> Vec<u8> {
-        (0..n).map(|_| self.below(1 << field) as u8).collect()
+        (0..n).map(|_| self.below(size(field) as u64) as u8).collect()
     }
 }

@@ -47,7 +47,7 @@ fn run([field, curve, dimension, places, message]: [Vec<u16>; 5]) -> Result<(Vec
     if (0..code.k).any(|i| places[..i].contains(&places[i])) {
         return Err(10);
     }
-    if message.iter().any(|&u| u >> field != 0) {
+    if message.iter().any(|&u| u as usize >= field::size(field)) {
         return Err(11);
     }
     let message: Vec<u8> = message.iter().map(|&u| u as u8).collect();

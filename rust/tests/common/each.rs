@@ -1,6 +1,6 @@
 //! The tests that each operation on chosen places has.
 use super::places::{curve_a, daily, some_places, usable_choice, whole_codes, word_of, Job, Operation};
-use super::{above, fullest_curve, spoil_all, Call, OwnCode, FIELDS};
+use super::{above, spoil_all, trials, Call, OwnCode, FIELDS, FIELDS_OF_256};
 use vakhudle::plain::{code, Random};
 use vakhudle::WORKING_SPACE;
 
@@ -31,16 +31,18 @@ fn spoil_at<O: Operation>(code: &OwnCode, random: &mut Random) -> bool {
 
 pub fn spoilt_calls<O: Operation>() {
     let random = &mut Random(69);
-    for (field, count) in FIELDS.zip([150, 150, 150, 100, 60, 25, 10]) {
+    for (field, count) in trials([150, 150, 150, 100, 60, 25, 10, 10]) {
         let dependent = (0..count).filter(|_| spoil_at::<O>(&OwnCode::random(field, random), random)).count();
         assert!(dependent > count / 8, "field {field}: {dependent} of {count}");
     }
     for _ in 0..5 {
         assert!(spoil_at::<O>(&daily(), random));
     }
-    let full = OwnCode::whole(8, fullest_curve(random), 1);
-    for k in [2, 40, 287] {
-        spoil_at::<O>(&OwnCode { k, ..full.clone() }, random);
+    for field in FIELDS_OF_256 {
+        let full = OwnCode::fullest(field, 1, random);
+        for k in [2, 40, 287] {
+            spoil_at::<O>(&OwnCode { k, ..full.clone() }, random);
+        }
     }
 }
 
@@ -76,7 +78,7 @@ pub fn a_fault_at_every_index<O: Operation>() {
             assert_eq!(Job { places, ..job.clone() }.run(random), Err(number));
         }
         // every byte is below 256
-        for i in (0..job.symbols.len()).filter(|_| field < 8) {
+        for i in (0..job.symbols.len()).filter(|_| code.size() < 256) {
             let mut job = job.clone();
             job.symbols[i] = above(code.size(), random);
             assert_eq!(job.run(random), Err(11));

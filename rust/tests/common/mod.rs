@@ -4,10 +4,19 @@ pub mod each;
 pub mod places;
 
 use std::fmt::Debug;
+use vakhudle::plain::field::size;
 use vakhudle::plain::{curve, Random};
 use vakhudle::{Answer, Code, WORKING_SPACE};
 
-pub const FIELDS: std::ops::RangeInclusive<u8> = 2..=8;
+pub const FIELDS: std::ops::RangeInclusive<u8> = 2..=9;
+
+/// The fields whose symbols are all bytes.
+pub const FIELDS_OF_256: [u8; 2] = [8, 9];
+
+/// Each field with its number of trials.
+pub fn trials(counts: [usize; 8]) -> impl Iterator<Item = (u8, usize)> {
+    FIELDS.zip(counts)
+}
 
 /// Bytes on each side of lent memory that no call may touch.
 const BORDER: usize = 64;
@@ -146,7 +155,7 @@ pub struct OwnCode {
 /// Coefficients of any curve over the field.
 pub fn any_curve(field: u8, random: &mut Random) -> [u8; 5] {
     // zeros are where the special cases are
-    [(); 5].map(|_| if random.once_in(4) { 0 } else { random.below(1 << field) as u8 })
+    [(); 5].map(|_| if random.once_in(4) { 0 } else { random.below(size(field) as u64) as u8 })
 }
 
 pub fn curve_that(singular: bool, field: u8, random: &mut Random) -> [u8; 5] {
@@ -158,11 +167,11 @@ pub fn curve_that(singular: bool, field: u8, random: &mut Random) -> [u8; 5] {
     }
 }
 
-/// A curve over 256 elements with 288 affine points, the most there can be. With g1 = 0 about one curve in 24 is such.
-pub fn fullest_curve(random: &mut Random) -> [u8; 5] {
+/// A curve over a field of 256 elements with 288 affine points, the most there can be. With g1 = 0 about one curve in 24 is such.
+pub fn fullest_curve(field: u8, random: &mut Random) -> [u8; 5] {
     loop {
         let curve = [0, 0, random.between(1, 255) as u8, random.next() as u8, random.next() as u8];
-        if curve::all_points(8, curve).len() == 288 {
+        if curve::all_points(field, curve).len() == 288 {
             return curve;
         }
     }
@@ -173,6 +182,11 @@ impl OwnCode {
     pub fn whole(field: u8, curve: [u8; 5], k: usize) -> Self {
         let (xs, ys) = curve::all_points(field, curve).into_iter().unzip();
         OwnCode { field, curve, xs, ys, k }
+    }
+
+    /// All 288 points of a curve over a field of 256 elements.
+    pub fn fullest(field: u8, k: usize, random: &mut Random) -> Self {
+        OwnCode::whole(field, fullest_curve(field, random), k)
     }
 
     /// A valid code: some or all points of a curve, shuffled or not, and any dimension.
@@ -209,7 +223,7 @@ impl OwnCode {
     }
 
     pub fn size(&self) -> usize {
-        1 << self.field
+        size(self.field)
     }
 
     fn spoil_lists(&mut self, random: &mut Random) {
@@ -228,17 +242,17 @@ impl OwnCode {
     pub fn spoil(&mut self, number: u8, random: &mut Random) -> bool {
         let (q, n) = (self.size(), self.n());
         match number {
-            1 => self.field = random.pick(&[0, 1, 9, 10, 16, 64, 255]),
+            1 => self.field = random.pick(&[0, 1, 10, 11, 16, 64, 255]),
             // every byte is below 256
-            2 if self.field == 8 => return false,
+            2 if q == 256 => return false,
             2 => self.curve[random.below(5) as usize] = above(q, random),
             3 => self.curve = curve_that(true, self.field, random),
             4 => self.spoil_lists(random),
             5 => {
                 let i = random.below(n as u64) as usize;
                 match random.below(3) {
-                    0 if self.field < 8 => self.xs[i] = above(q, random),
-                    1 if self.field < 8 => self.ys[i] = above(q, random),
+                    0 if q < 256 => self.xs[i] = above(q, random),
+                    1 if q < 256 => self.ys[i] = above(q, random),
                     _ => loop {
                         (self.xs[i], self.ys[i]) = (random.below(q as u64) as u8, random.below(q as u64) as u8);
                         if !curve::on_curve(self.field, self.curve, self.xs[i], self.ys[i]) {

@@ -2,7 +2,7 @@
 use super::{above, agree_with_work, other_length, Call, Filler, OwnCode, FIELDS};
 use std::fmt::Debug;
 use std::marker::PhantomData;
-use vakhudle::plain::field::{power, product};
+use vakhudle::plain::field::{is_field, power, product, size, width};
 use vakhudle::plain::{code, curve, fast, places as simple, Random};
 use vakhudle::{Answer, Code, WORKING_SPACE};
 
@@ -79,7 +79,7 @@ operations! {
 
 /// Whether all codewords can be searched.
 fn has_few_words(code: &Code) -> bool {
-    code.k <= 6 && code.k * code.field as usize <= 12
+    is_field(code.field) && code.k <= 6 && code.k * width(code.field) <= 12
 }
 
 /// A call of an operation. Those that take no places, or no symbols, leave these lists empty.
@@ -216,7 +216,7 @@ impl<O: Operation> Call for Job<O> {
                 let j = (i + 1 + random.below(count - 1)) % count;
                 self.places[i as usize] = self.places[j as usize];
             }
-            11 if self.code.field == 8 => return false,
+            11 if self.code.size() == 256 => return false,
             11 => {
                 let i = random.below(self.symbols.len() as u64) as usize;
                 self.symbols[i] = above(self.code.size(), random);
@@ -321,7 +321,7 @@ pub fn whole_codes(field: u8, filter: impl Fn(u32) -> bool) -> impl Iterator<Ite
 /// The sum of two points in the curve's group; `None` is the point at infinity.
 fn sum(field: u8, [g1, g2, g3, g4, _]: [u8; 5], a: Option<(u8, u8)>, b: Option<(u8, u8)>) -> Option<(u8, u8)> {
     let p = |a, b| product(field, a, b);
-    let over = |a, b| p(a, power(field, b, (1 << field) - 2));
+    let over = |a, b| p(a, power(field, b, size(field) - 2));
     let (Some((x1, y1)), Some((x2, y2))) = (a, b) else {
         return a.or(b);
     };

@@ -4,16 +4,15 @@ use Prim.Native.Nat.{ℕ, _≤_}
 use mathlib.Core.Path.{_≡_, sym, ap, _∙_}
 use mathlib.Core.Bool.{true, not}
 use mathlib.Core.List.{List}
-use borrow.Author.Tests.{leb-true, eq-eqb, ne-eqb, not-true, not-false}
-use lib.Dec.{leb}
+use borrow.Author.Tests.{eq-eqb, ne-eqb, not-true, not-false}
 use lib.ListN.{length}
 use Rattle.basics.specs.Outcome.{Outcome, check, Meets}
 use Rattle.basics.specs.declared.Answer.{Answer}
 use Rattle.basics.specs.declared.Refusal.the-variants.{FieldNumber, CurveCoefficient}
-use Rattle.basics.proofs.Lists.{both}
 use Rattle.basics.proofs.Outcomes.{pass, refuse}
 use Rattle.field.specs.Galois.{IsField, isField, size, galois}
 use Rattle.field.specs.Tables.{Tables}
+use Rattle.field.proofs.Galois.{is-field as field-number}
 use Rattle.elliptic.specs.Curve.{coefficientsBelow, singular, affinePoints}
 use Rattle.point_count.proofs.Bound.{bound}
 use Rattle.curve.specs.Points.{room, pointsOutcome}
@@ -29,10 +28,7 @@ field-ok : (c : tie.Else1) → isField (c .before .before .before .before .args 
 field-ok c = sym (c .before .is-field .ensures) ∙ not-false _ (c .if1 .left)
 
 is-field : (c : tie.Else1) → IsField (c .before .before .before .before .args .m)
-is-field c =
-    let m = c .before .before .before .before .args .m in
-    let t = both (leb 2 m) (leb m 8) (field-ok c) in
-    (leb-true 2 m (t .0), leb-true m 8 (t .1))
+is-field c = field-number _ (field-ok c)
 
 below-ok : (c : tie.Else2) → coefficientsBelow (size (c .before .before .before .before .before .before .args .m)) (c .before .before .before .before .before .before .args .c) ≡ true
 below-ok c = sym (c .before .coefficients-below .ensures) ∙ not-false _ (c .if2 .left)

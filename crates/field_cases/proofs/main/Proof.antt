@@ -1,11 +1,11 @@
--- The loop goes over the field numbers.
+-- The loop goes over the field numbers, of which 9 is the last.
 use borrow.Author.Needs.{needs}
 use Prim.Native.Nat.{_-_, _≤_}
 use Rattle.field_cases.proofs.main.Statement.{statement}
 use Rattle.field_cases.proofs.main.Tie as tie
 
 abbrev Inv-loop : tie.InvT-loop
-Inv-loop m₀ m = (2 ≤ m) × (m ≤ 9)
+Inv-loop m₀ m = (2 ≤ m) × (m ≤ 10)
 
 abbrev μ-loop : tie.MeasureT-loop
 μ-loop m₀ m = 256 - m
@@ -25,10 +25,13 @@ loop-less c = search needs
 loop-again : tie.Need-loop-again Inv-loop μ-loop
 loop-again c = search needs
 
+standard-products-requires : tie.Need-standard-products-requires Inv-loop μ-loop
+standard-products-requires c κs = search needs
+
 returns : tie.Need-returns Inv-loop μ-loop
 returns c = search needs
 
 pub main-spec : {M : Type 1} → statement M
 main-spec =
     tie.close
-    (tie.spec Inv-loop μ-loop loop-holds facts-requires add-m loop-less loop-again returns)
+    (tie.spec Inv-loop μ-loop loop-holds facts-requires add-m loop-less loop-again standard-products-requires returns)

@@ -4,10 +4,11 @@ use mathlib.Core.Path.{_≡_, sym, _∙_}
 use native.Mathlib.Omega.{arith}
 use borrow.Author.Tests.{not-true, not-false}
 use Rattle.field.specs.Galois.{isField}
+use Rattle.field.proofs.Galois.{is-field, no-field}
 use Rattle.codewords.specs.Code.{coefficientsBelow}
 use Rattle.sheet.specs.Job.{curveOf, codeFor, jobOutcome}
 use Rattle.sheet.proofs.Stops.{passes, stops}
-use Rattle.sheet.proofs.Jobs.{no-field, field-of, too-large}
+use Rattle.sheet.proofs.Jobs.{too-large}
 use borrow.Author.Needs.{needs}
 use Rattle.sheet.proofs.job.run.Statement.{statement}
 use Rattle.sheet.proofs.job.run.Tie as tie
@@ -40,7 +41,7 @@ returns-3 : tie.Need-returns-3
 unfolding jobOutcome codeFor coefficientsBelow
 returns-3 c =
     let h = entry (c .before .before) .args .head in
-    passes _ (field-ok (c .before .before)) (stops _ (too-large (h .field) (curveOf h) (field-of (h .field) (field-ok (c .before .before))) (sym (c .before .is-small .ensures) ∙ not-true _ (c .if3 .taken))))
+    passes _ (field-ok (c .before .before)) (stops _ (too-large (h .field) (curveOf h) (is-field (h .field) (field-ok (c .before .before))) (sym (c .before .is-small .ensures) ∙ not-true _ (c .if3 .taken))))
 
 parameters-requires : tie.Need-parameters-requires
 parameters-requires c κs = (omega (arith, c .before .before .before .before .before .if1 .left), sym (c .before .is-small .ensures) ∙ not-false _ (c .if3 .left))

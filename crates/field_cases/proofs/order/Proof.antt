@@ -1,14 +1,14 @@
 -- No value is claimed: the loop ends, and nothing overflows.
 use borrow.Author.Needs.{needs}
 use Prim.Native.Nat.{_-_}
-use Rattle.field_cases.proofs.order_of_two.Statement.{statement}
-use Rattle.field_cases.proofs.order_of_two.Tie as tie
+use Rattle.field_cases.proofs.order.Statement.{statement}
+use Rattle.field_cases.proofs.order.Tie as tie
 
 abbrev Inv-loop : tie.InvT-loop
-Inv-loop m powers logs a₀ n₀ a n = Unit {0}
+Inv-loop m powers logs g a₀ n₀ a n = Unit {0}
 
 abbrev μ-loop : tie.MeasureT-loop
-μ-loop m powers logs a₀ n₀ a n = 256 - n
+μ-loop m powers logs g a₀ n₀ a n = 256 - n
 
 loop-holds : tie.Need-loop-holds Inv-loop μ-loop
 loop-holds c = search needs
@@ -31,8 +31,8 @@ loop-again c = search needs
 returns-2 : tie.Need-returns-2 Inv-loop μ-loop
 returns-2 c = search needs
 
-pub order-of-two-spec : {M : Type 1} → statement M
-order-of-two-spec =
+pub order-spec : {M : Type 1} → statement M
+order-spec =
     tie.close
     (tie.spec
     Inv-loop
