@@ -14,7 +14,7 @@ extern "C" {
 #endif
 
 enum vakhudle_refusal {
-    VAKHUDLE_FIELD_NUMBER = 1,      /* the field number is not 2 to 8 */
+    VAKHUDLE_FIELD_NUMBER = 1,      /* the field number is not 2 to 9 */
     VAKHUDLE_CURVE_COEFFICIENT = 2, /* a coefficient of the curve is not below q */
     VAKHUDLE_SINGULAR = 3,          /* the curve is singular */
     VAKHUDLE_POINT_COUNT = 4,       /* n is not 2 to 288, or the coordinate lists differ in length */
@@ -36,6 +36,9 @@ enum vakhudle_refusal {
     VAKHUDLE_SHEET_SHAPE = 20,      /* a job sheet of another shape */
     VAKHUDLE_TOO_FAR = 21           /* no codeword is near enough */
 };
+
+/* Field number m, 2 to 8, is the field of q = 2^m elements, whose symbols have m bits, with the modulus 7, B, 13, 25, 43, 89, 11D (hexadecimal). Field
+ * number 9 is the other field of 256 elements, with the modulus 11B; its symbols have 8 bits. */
 
 /* The products of two lists of symbols, element by element: out[i] = a[i] * b[i] in the field. Refuses 1, then 8 if the lengths differ. */
 int32_t vakhudle_products(uint8_t field, const uint8_t *a, size_t a_len, const uint8_t *b, size_t b_len, uint8_t *out, size_t out_len);
@@ -76,12 +79,12 @@ int32_t vakhudle_heard(uint8_t field, uint8_t g1, uint8_t g2, uint8_t g3, uint8_
                        const uint8_t *ys, size_t ys_len, size_t k, const uint8_t *mask, size_t mask_len, uint16_t *places_out,
                        size_t places_out_len);
 
-/* Packs k * field div 15 means, 15 bits each, into k symbols. Refuses code, 8, 16 (a mean out of range and not VAKHUDLE_ABSENT). */
+/* Packs k * b div 15 means, 15 bits each, into k symbols of b bits: b is the field number, and 8 for field 9. Refuses code, 8, 16 (a mean out of range and not VAKHUDLE_ABSENT). */
 int32_t vakhudle_pack(uint8_t field, uint8_t g1, uint8_t g2, uint8_t g3, uint8_t g4, uint8_t g6, const uint8_t *xs, size_t xs_len,
                       const uint8_t *ys, size_t ys_len, size_t k, const int16_t *means, size_t means_len, uint8_t *symbols_out,
                       size_t symbols_out_len);
 
-/* The k * field div 15 means that were packed into k symbols. Refuses code, 8, 11, 17. */
+/* The k * b div 15 means that were packed into k symbols of b bits. Refuses code, 8, 11, 17. */
 int32_t vakhudle_unpack(uint8_t field, uint8_t g1, uint8_t g2, uint8_t g3, uint8_t g4, uint8_t g6, const uint8_t *xs, size_t xs_len,
                         const uint8_t *ys, size_t ys_len, size_t k, const uint8_t *symbols, size_t symbols_len, int16_t *means_out,
                         size_t means_out_len);
