@@ -79,7 +79,8 @@ int32_t vakhudle_heard(uint8_t field, uint8_t g1, uint8_t g2, uint8_t g3, uint8_
                        const uint8_t *ys, size_t ys_len, size_t k, const uint8_t *mask, size_t mask_len, uint16_t *places_out,
                        size_t places_out_len);
 
-/* Packs k * b div 15 means, 15 bits each, into k symbols of b bits: b is the field number, and 8 for field 9. Refuses code, 8, 16 (a mean out of range and not VAKHUDLE_ABSENT). */
+/* Packs k * b div 15 means, 15 bits each, into k symbols of b bits: b is the field number, and 8 for field 9. Refuses code, 8, 16 (a mean out of
+ * range and not VAKHUDLE_ABSENT). */
 int32_t vakhudle_pack(uint8_t field, uint8_t g1, uint8_t g2, uint8_t g3, uint8_t g4, uint8_t g6, const uint8_t *xs, size_t xs_len,
                       const uint8_t *ys, size_t ys_len, size_t k, const int16_t *means, size_t means_len, uint8_t *symbols_out,
                       size_t symbols_out_len);
