@@ -1,13 +1,12 @@
 -- Tests that antt computes over all numbers below a bound, and the entries of lists that are made by a rule.
 use mathlib.Core.Path.{_≡_, refl, sym, ap, _∙_, subst}
-use mathlib.Core.Bool.{Bool, true, false, not, _&&_, _||_}
+use mathlib.Core.Bool.{Bool, true, false, _&&_}
 use mathlib.Core.Logic.{⊎-elim}
-use mathlib.Core.List.{List, []}
+use mathlib.Core.List.{List, [], _∷_}
 use Prim.Native.Nat.{ℕ, zero, suc, _+_, _-_, _/_, _%_, _<_}
 use native.Mathlib.Nat.{not-suc-le-zero, le-of-suc-le-suc, add-zero, add-suc, suc-add, eq-or-lt-of-le}
 use native.Mathlib.Omega.{arith}
-use borrow.Author.Tests.{lt-ltb}
-use lib.Dec.{T, eqb, ltb, eqb→eq}
+use lib.Dec.{T, eqb, eqb→eq}
 use lib.ListN.{length, getD}
 use Rattle.basics.specs.Lists.{same}
 use Rattle.basics.proofs.Lists.{same-true}
@@ -75,6 +74,16 @@ tested rule k pair t {i} {m} e h =
     holds : (b : Bool) → T b → b ≡ true
     holds true t = refl
     holds false t = absurd t
+
+-- the same of two rows that stand the other way round
+pub tested-back : (rule : ℕ → List ℕ) (k : ℕ) (high low : List ℕ) → T (rowsTest rule k (low ∷ high ∷ [])) → {i m : ℕ} → i ≡ 1 - m % 2 → m / 2 ≡ k
+    → getD (high ∷ low ∷ []) i [] ≡ rule m
+tested-back rule k high low t {m = m} e h = ap (λ n. getD (high ∷ low ∷ []) n []) e ∙ turned (m % 2) (omega arith) ∙ tested rule k (low ∷ high ∷ []) t refl h
+  where
+    turned : (b : ℕ) → b < 2 → getD (high ∷ low ∷ []) (1 - b) [] ≡ getD (low ∷ high ∷ []) b []
+    turned zero l = refl
+    turned (suc zero) l = refl
+    turned (suc (suc b)) l = absurd (omega arith)
 
 -- the same of a list of numbers by field number
 unfoldable pub numbersTest : (ℕ → ℕ) → List ℕ → Bool

