@@ -29,6 +29,7 @@ pub enum Refusal {
     Hour,
     SheetShape,
     TooFar,
+    NoRun,
 }
 
 // Accepted, with a count where the operation has one, or refused.
@@ -70,6 +71,7 @@ pub fn number(refusal: Refusal) -> u8
         Refusal::Hour => 19,
         Refusal::SheetShape => 20,
         Refusal::TooFar => 21,
+        Refusal::NoRun => 22,
     }
 }
 

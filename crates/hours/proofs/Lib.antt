@@ -2,7 +2,7 @@
 pub mod Stamps
 mod Runs
 mod Scan
-mod Numbers
+pub mod Numbers
 mod Stream
 mod Symbols
 mod Reading

@@ -2,4 +2,4 @@
 mod bit_reader;
 pub mod means;
 pub mod packing;
-mod rounding;
+pub mod rounding;
