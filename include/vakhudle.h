@@ -34,7 +34,8 @@ enum vakhudle_refusal {
     VAKHUDLE_STAMP_ORDER = 18,      /* a stamp is not greater than the one before */
     VAKHUDLE_HOUR = 19,             /* an hour is out of range */
     VAKHUDLE_SHEET_SHAPE = 20,      /* a job sheet of another shape */
-    VAKHUDLE_TOO_FAR = 21           /* no codeword is near enough */
+    VAKHUDLE_TOO_FAR = 21,          /* no codeword is near enough */
+    VAKHUDLE_NO_RUN = 22            /* no run of hours gives the rolling state, or the hour is not the next */
 };
 
 /* Field number m, 2 to 8, is the field of q = 2^m elements, whose symbols have m bits, with the modulus 7, B, 13, 25, 43, 89, 11D (hexadecimal). Field
@@ -57,6 +58,22 @@ int32_t vakhudle_points(uint8_t field, uint8_t g1, uint8_t g2, uint8_t g3, uint8
  * the next. */
 int32_t vakhudle_means(const uint32_t *stamps, size_t stamps_len, const int16_t *readings, size_t readings_len, uint32_t first,
                        int16_t *means_out, size_t means_out_len);
+
+/* The length of a rolling state, which is all that a rolling mean needs of a run of hours. Bytes 0 to 47 have the means of the last 24 hours, the newest
+ * first, two bytes each, in Pack's 15 bits: the mean plus 2,000, or 32,767 where it is absent, as it is for hours before the first. Bytes 48 to 55 have
+ * the number of the hour that comes next, 1 to 4,294,967,296, and 0 before the first hour. Bytes 56 to 63 are 0. All numbers have their lowest byte first.
+ * A state has no second form: bytes that no run gives, 64 zeros among them, are refused as 22. States stay in service over later versions. */
+#define VAKHUDLE_ROLLING_STATE 64
+
+/* The state before the first hour. Refuses 8. */
+int32_t vakhudle_rolling_fresh(uint8_t *state_out, size_t state_out_len);
+
+/* The next hour, with its mean or VAKHUDLE_ABSENT: replaces the state by the new one, and writes the rolling mean, the only entry of rolling_out. It
+ * is the mean of the present hours among the last 24, this one included, or among all so far if they are fewer; rounded as an hourly mean is, and
+ * VAKHUDLE_ABSENT where fewer than 18 are present. The first hour is at most 71,000,000, and each later one is one more than the last, up to
+ * 4,294,967,295. Refuses 8, 16 (a mean out of range and not VAKHUDLE_ABSENT), 22 (no run of accepted hours, not even an empty one, gives the state, or
+ * the hour is not the next). */
+int32_t vakhudle_rolling(uint8_t *state, size_t state_len, uint32_t hour, int16_t mean, int16_t *rolling_out, size_t rolling_out_len);
 
 /* The least length of the buffer for the answer to a job sheet: no answer is longer. */
 #define VAKHUDLE_SHEET_ROOM 4096

@@ -19,7 +19,10 @@ pub const WORKING_SPACE: usize = 8_192;
 /// The least length of the buffer for the answer to a job sheet: no answer is longer.
 pub const SHEET_ROOM: usize = 4_096;
 
-/// The mean of an hour with too few readings.
+/// The length of a rolling state. The header says what is in it.
+pub const ROLLING_STATE: usize = 64;
+
+/// The mean of an hour with too few readings, or of a day with too few hours.
 pub const ABSENT: i16 = 32_767;
 
 /// A code: a field, a curve, a list of points on it, and a dimension. Nothing is tested before a call.
@@ -69,6 +72,17 @@ pub fn means(stamps: &[u32], readings: &[i16], first_hour: u32, means_out: &mut 
     answer(unsafe {
         raw::vakhudle_means(stamps.as_ptr(), stamps.len(), readings.as_ptr(), readings.len(), first_hour, means_out.as_mut_ptr(), means_out.len())
     })
+}
+
+/// Writes the rolling state before the first hour into a buffer of 64 bytes.
+pub fn rolling_fresh(state_out: &mut [u8]) -> Answer {
+    answer(unsafe { raw::vakhudle_rolling_fresh(state_out.as_mut_ptr(), state_out.len()) })
+}
+
+/// Takes the next hour with its mean or 32,767: replaces the state, and writes the mean of the present hours among the last 24, if there are 18, or else
+/// 32,767, into a list of one.
+pub fn rolling(state: &mut [u8], hour: u32, mean: i16, rolling_out: &mut [i16]) -> Answer {
+    answer(unsafe { raw::vakhudle_rolling(state.as_mut_ptr(), state.len(), hour, mean, rolling_out.as_mut_ptr(), rolling_out.len()) })
 }
 
 /// Defines operations over a code, each by the lists that it reads and, behind the semicolon, those that it writes.

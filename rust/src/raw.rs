@@ -26,6 +26,10 @@ extern "C" {
         means_out_len: usize,
     ) -> i32;
 
+    pub fn vakhudle_rolling_fresh(state_out: *mut u8, state_out_len: usize) -> i32;
+
+    pub fn vakhudle_rolling(state: *mut u8, state_len: usize, hour: u32, mean: i16, rolling_out: *mut i16, rolling_out_len: usize) -> i32;
+
     pub fn vakhudle_sheet(text: *const u8, text_len: usize, out: *mut u8, out_len: usize) -> i32;
 }
 

@@ -16,6 +16,7 @@ use Rattle.curve.proofs.Count.{points-counts as points-few}
 use Rattle.code.specs.Heard.{heardAt, heardPlaces, heardTested, heardOutcome}
 use Rattle.code.proofs.Tested.{counts-code}
 use Rattle.hours.specs.Means.{meansOutcome}
+use Rattle.rolling.specs.Bytes.{freshOutcome, rollingOutcome}
 use Rattle.coder.specs.Outcomes.{recoverOutcome, systematicFunctionOutcome, systematicWordOutcome, matrixOutcome, relationOutcome, pickOutcome, rebuildOutcome}
 use Rattle.correction.specs.Outcomes.{correctOutcome}
 use Rattle.decoding.specs.Near.{distance, corrected}
@@ -34,6 +35,13 @@ points-counts m C xs ys = omega (arith, points-few m C xs ys)
 
 pub means-counts : (ts : List ℕ) (rs : List ℤ) (first hours : ℕ) → counts (answer (meansOutcome ts rs first hours)) ≤ most
 means-counts ts rs first hours =
+    counts-check most _ _ _ (counts-check most _ _ _ (counts-check most _ _ _ (counts-check most _ _ _ (counts-check most _ _ _ (counts-accepted most _)))))
+
+pub fresh-counts : (state : List ℕ) → counts (answer (freshOutcome state)) ≤ most
+fresh-counts state = counts-check most _ _ _ (counts-accepted most _)
+
+pub rolling-counts : (state : List ℕ) (hour : ℕ) (mean : ℤ) (out : List ℤ) → counts (answer (rollingOutcome state hour mean out)) ≤ most
+rolling-counts state hour mean out =
     counts-check most _ _ _ (counts-check most _ _ _ (counts-check most _ _ _ (counts-check most _ _ _ (counts-check most _ _ _ (counts-accepted most _)))))
 
 module _ (code : Code) where

@@ -10,6 +10,7 @@ ghost use Rattle.blocks.specs.Outcomes.{plainOutcome, packBlockOutcome, unpackB
 ghost use Rattle.coder.specs.Outcomes.{recoverOutcome, systematicFunctionOutcome, systematicWordOutcome, matrixOutcome, relationOutcome, pickOutcome, rebuildOutcome};
 ghost use Rattle.correction.specs.Outcomes.{correctOutcome};
 ghost use Rattle.hours.specs.Means.{meansOutcome};
+ghost use Rattle.rolling.specs.Bytes.{freshOutcome, rollingOutcome};
 ghost use Rattle.sheet.specs.Job.{sheetOutcome};
 ghost use Rattle.abi.specs.Arguments.{curveOf, parametersOf, codeFrom};
 use basics::status;
@@ -53,6 +54,23 @@ pub extern "C" fn vakhudle_means(
     ensures { λ r. ⌜ Reports (meansOutcome (now (stamps .entry)) (now (readings .entry)) first (length (now (out .entry)))) r (now (out .entry)) (now (out .exit)) ⌝ }
 {
     status(hours::means::means(stamps, readings, first, out))
+}
+
+// The rolling state before the first hour.
+#[no_mangle]
+pub extern "C" fn vakhudle_rolling_fresh(out: &mut [u8]) -> i32
+    ensures { λ r. ⌜ Reports (freshOutcome (now (out .entry))) r (now (out .entry)) (now (out .exit)) ⌝ }
+{
+    status(rolling::calls::rolling_fresh(out))
+}
+
+// Rolling.
+#[no_mangle]
+pub extern "C" fn vakhudle_rolling(state: &mut [u8], hour: u32, mean: i16, out: &mut [i16]) -> i32
+    ensures { λ r. ⌜ Reports (rollingOutcome (now (state .entry)) hour mean (now (out .entry))) r
+        (now (state .entry), now (out .entry)) (now (state .exit), now (out .exit)) ⌝ }
+{
+    status(rolling::calls::rolling(state, hour, mean, out))
 }
 
 // The answer to a job sheet.

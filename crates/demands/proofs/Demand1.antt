@@ -5,6 +5,7 @@ use mathlib.Core.Bool.{Bool, true, false, not, cond, _&&_}
 use mathlib.Core.List.{List, [], _∷_, _++_, map}
 use native.Mathlib.Omega.{arith}
 use lib.Dec.{eqb}
+use lib.IntN.{ℤ}
 use lib.ListN.{length, take, drop, replicate, length-append, length-drop, length-map, length-replicate}
 use lib.Seq.{take-append-seam, drop-append-seam}
 use borrow.Author.Tests.{eqb-true, eqb-false, leb-true, not-true}
@@ -33,14 +34,17 @@ use Rattle.curve.specs.Points.{pointsOutcome, room as pointRoom}
 use Rattle.code.specs.Heard.{heardPlaces, heardOutcome, heardAt}
 use Rattle.hours.specs.Means.{meanAt}
 use Rattle.hours.specs.Packing.{unpackedAt, stream}
+use Rattle.rolling.specs.State.{stateOf}
+use Rattle.rolling.specs.Bytes.{rollingOutcome}
+use Rattle.rolling.proofs.InBytes.{length-state, fresh-length, advanced-length}
 use Rattle.solving.specs.Tests.{Lent, room, cleared}
 use Rattle.coder.specs.Outcomes.{joined}
 use Rattle.decoding.specs.Near.{correctable, corrected}
 use Rattle.text.specs.Reading.{Sheet}
 use Rattle.sheet.specs.Job.{codeFor, jobOutcome, answerTo, sheetOutcome, room as sheetRoom, Answers as AnswersSheet}
 use Rattle.demands.specs.Call.{Call, Of}
-use Rattle.demands.specs.Order.{Test, first, numbers, codeTests, pointsTests, heardTests, jobTests, sheetTests}
-use Rattle.demands.specs.Demand1.{Answers, Filled, Listed, Worked, PointsAnswers, Works, Demand1}
+use Rattle.demands.specs.Order.{Test, first, numbers, codeTests, pointsTests, freshTests, rollingTests, heardTests, jobTests, sheetTests}
+use Rattle.demands.specs.Demand1.{Answers, Filled, Listed, Worked, PointsAnswers, RollingAnswers, Works, Demand1}
 use Rattle.demands.proofs.Passing.{accepted-on, counted-on}
 use Rattle.demands.proofs.Ones.{one-word, is-recovered, the-in, in-codeword, agreed-some, codeword-length, the-function, the-within}
 use Rattle.demands.proofs.Rows.{joined-length, row-lengths, row-count}
@@ -111,6 +115,19 @@ heard-call code mask r old new =
   where
     few : codeAnswer code ≡ Done → length old ≡ 288 → length (heardPlaces mask (n code)) ≤ length old
     few done e = omega (arith, e, accepted-done code done .n-most, length-filter (heardAt mask) (table suc (n code)), length-table suc (n code))
+
+-- ---- the rolling mean
+
+rolling-call : (state : List ℕ) (hour : ℕ) (mean : ℤ) (out : List ℤ) (r : Answer) (state′ : List ℕ) (out′ : List ℤ)
+    → Meets (rollingOutcome state hour mean out) r (state, out) (state′, out′) → RollingAnswers state hour mean out r state′ out′
+rolling-call state hour mean out r state′ out′ =
+    answers _ (rollingTests state hour mean out) _ refl (accepts-accepted {M = List ℕ × List ℤ} _)
+    (λ h m.
+    let (long, (one, _)) = first-hold (rollingTests state hour mean out) h in
+    let (done, new) = accepted-on m in (
+      record { done = done; written = ap (λ p. p .0) new; whole = length-state _ (advanced-length state hour mean) ∙ sym (eqb-true _ _ long) },
+      record { done = done; written = ap (λ p. p .1) new; whole = sym (eqb-true _ _ one) },
+    ))
 
 -- ---- the lengths of what the others give
 
@@ -199,6 +216,10 @@ demand1 =
       points = points-call;
       points-fit = bound;
       means = λ ts rs h r old new. answers _ _ _ refl (accepts-accepted _) (λ p. filled (length-table (meanAt ts rs h) (length old)));
+      rolling-fresh = λ r old new.
+          answers _ (freshTests old) _ refl (accepts-accepted _)
+          (λ h. filled (length-state (stateOf []) fresh-length ∙ sym (eqb-true _ _ (first-hold (freshTests old) h .0))));
+      rolling = rolling-call;
       plain = λ code f r old new.
           code-answers code _ _ _ refl (accepts-accepted _) (λ done (a, (b, c)). filled (demand2 code done .word-length f ∙ sym (eqb-true _ _ b)));
       pack = λ code means r old new.

@@ -6,6 +6,7 @@ mod Order
 pub mod Fields
 pub mod Blocks
 pub mod Hours
+pub mod Rolling
 pub mod Masks
 pub mod Demand1
 pub mod Demand2

@@ -77,7 +77,7 @@ module _ {M : Type 0} where
       by true r = r
       by false r = refl
 
-  refused-left : (o : Outcome M) (old : M) {e : Refusal} → answer o ≡ Refused e → left old o ≡ old
+  pub refused-left : (o : Outcome M) (old : M) {e : Refusal} → answer o ≡ Refused e → left old o ≡ old
   unfolding answer left
   refused-left (refused e) old h = refl
   refused-left (accepted m) old h = cc

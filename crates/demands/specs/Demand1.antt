@@ -21,6 +21,8 @@ use Rattle.curve.specs.Points.{pointsOutcome, room as pointRoom}
 use Rattle.code.specs.Heard.{heardPlaces, heardOutcome}
 use Rattle.hours.specs.Means.{meanAt, meansOutcome}
 use Rattle.hours.specs.Packing.{packed, unpacked}
+use Rattle.rolling.specs.State.{stateOf, advanced, figure}
+use Rattle.rolling.specs.Bytes.{stateFrom, stateBytes, freshOutcome, rollingOutcome}
 use Rattle.blocks.specs.Outcomes.{plainOutcome, packBlockOutcome, unpackBlockOutcome}
 use Rattle.solving.specs.Tests.{Lent, room}
 use Rattle.coder.specs.Outcomes.{joined}
@@ -30,7 +32,7 @@ use Rattle.correction.specs.Outcomes.{correctOutcome}
 use Rattle.text.specs.Reading.{Sheet}
 use Rattle.sheet.specs.Job.{codeFor, jobOutcome, answerTo, Answers as AnswersSheet}
 use Rattle.demands.specs.Call.{Call, Of}
-use Rattle.demands.specs.Order.{Test, first, numbers, pointsTests, meansTests, plainTests, packTests, unpackTests, heardTests}
+use Rattle.demands.specs.Order.{Test, first, numbers, pointsTests, meansTests, freshTests, rollingTests, plainTests, packTests, unpackTests, heardTests}
 use Rattle.demands.specs.Order.{recoverTests, systematicTests, matrixTests, relationTests, pickTests, rebuildTests, correctTests, jobTests, sheetTests}
 
 -- the answer r, with lent memory from old to new, of a call that has the tests ts, whose numbers are ns
@@ -79,6 +81,13 @@ PointsAnswers m C r xs ys xs′ ys′ =
     Answers {M = Lent} (1 ∷ 2 ∷ 3 ∷ 8 ∷ []) (pointsTests m C xs ys) r (xs, ys) (xs′, ys′)
     (Listed (map (λ P. P .x) (affinePoints (galois m) C)) r xs xs′ × Listed (map (λ P. P .y) (affinePoints (galois m) C)) r ys ys′)
 
+-- Rolling: both lists that it is lent are written whole
+abbrev pub RollingAnswers : List ℕ → ℕ → ℤ → List ℤ → Answer → List ℕ → List ℤ → Type 0
+RollingAnswers state hour mean out r state′ out′ =
+    let new = advanced (stateFrom state) hour mean in
+    Answers {M = List ℕ × List ℤ} (8 ∷ 8 ∷ 16 ∷ 22 ∷ 22 ∷ []) (rollingTests state hour mean out) r (state, out) (state′, out′)
+    (Filled Done (stateBytes new) r state state′ × Filled Done (figure (new .codes) ∷ []) r out out′)
+
 pub record Demand1 : Type 0 where
   pub points : (m : ℕ) (C : Curve) (r : Answer) (xs ys xs′ ys′ : List ℕ) → Meets (pointsOutcome m C xs ys) r (xs, ys) (xs′, ys′)
       → PointsAnswers m C r xs ys xs′ ys′
@@ -87,6 +96,10 @@ pub record Demand1 : Type 0 where
       → length (affinePoints (galois m) C) ≤ pointRoom
   pub means : (stamps : List ℕ) (readings : List ℤ) (hour : ℕ) (r : Answer) (old new : List ℤ) → Meets (meansOutcome stamps readings hour (length old)) r old new
       → Fills (8 ∷ 19 ∷ 18 ∷ 19 ∷ 16 ∷ []) (meansTests stamps readings hour (length old)) (table (meanAt stamps readings hour) (length old)) r old new
+  -- the rolling state before the first hour, and Rolling: the new state in place of the old one, and the rolling mean
+  pub rolling-fresh : (r : Answer) (old new : List ℕ) → Meets (freshOutcome old) r old new → Fills (8 ∷ []) (freshTests old) (stateBytes (stateOf [])) r old new
+  pub rolling : (state : List ℕ) (hour : ℕ) (mean : ℤ) (out : List ℤ) (r : Answer) (state′ : List ℕ) (out′ : List ℤ)
+      → Meets (rollingOutcome state hour mean out) r (state, out) (state′, out′) → RollingAnswers state hour mean out r state′ out′
   pub plain : (code : Code) (f : List ℕ) (r : Answer) (old new : List ℕ) → Meets (plainOutcome code f (length old)) r old new
       → Fills (codeNumbers ++ 8 ∷ 8 ∷ 11 ∷ []) (plainTests code f old) (word code f) r old new
   pub pack : (code : Code) (means : List ℤ) (r : Answer) (old new : List ℕ) → Meets (packBlockOutcome code means (length old)) r old new

@@ -7,6 +7,7 @@ pub mod Demand2
 pub mod Demand3
 pub mod Correction
 pub mod Hours
+pub mod Rolling
 pub mod Masks
 pub mod Blocks
 pub mod Day

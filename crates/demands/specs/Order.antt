@@ -8,7 +8,7 @@ use lib.ListN.{length}
 use Rattle.basics.specs.declared.Refusal.{Refusal}
 use Rattle.basics.specs.declared.Refusal.the-variants.{FieldNumber, CurveCoefficient, Singular, PointCount, OffCurve, RepeatedPoint, Dimension}
 use Rattle.basics.specs.declared.Refusal.the-variants.{Length, Place, RepeatedPlace, Symbol, Dependent, TooFew, NoCodeword, Independent}
-use Rattle.basics.specs.declared.Refusal.the-variants.{Reading, NeverPacked, StampOrder, Hour, TooFar}
+use Rattle.basics.specs.declared.Refusal.the-variants.{Reading, NeverPacked, StampOrder, Hour, TooFar, NoRun}
 use Rattle.basics.specs.declared.Answer.{Answer}
 use Rattle.basics.specs.declared.Answer.the-variants.{Done, Refused}
 use Rattle.basics.specs.Bits.{isWord}
@@ -24,6 +24,8 @@ use Rattle.curve.specs.Points.{room as pointRoom}
 use Rattle.code.specs.Heard.{nonePast}
 use Rattle.hours.specs.Means.{increasing, inHours, inRange}
 use Rattle.hours.specs.Packing.{capacity, valid, clean}
+use Rattle.rolling.specs.State.{possible, continues}
+use Rattle.rolling.specs.Bytes.{stateFrom}
 use Rattle.sheet.specs.Job.{room as sheetRoom}
 use Rattle.solving.specs.Tests.{room}
 use Rattle.decoding.specs.Near.{correctable}
@@ -56,10 +58,21 @@ meansTests ts rs first H =
     test (eqb (length ts) (length rs) && leb H 153) Length ∷ test (leb first 71000000) Hour ∷ test (increasing ts) StampOrder
     ∷ test (all (inHours first H) ts) Hour ∷ test (all inRange rs) Reading ∷ []
 
--- ---- the others: the code, then lengths, places and symbols
+-- ---- the rolling mean
 
 abbrev lengthTest : {A : Type 0} → List A → ℕ → Test
 lengthTest l size = test (eqb (length l) size) Length
+
+abbrev pub freshTests : List ℕ → List Test
+freshTests state = lengthTest state 64 ∷ []
+
+-- Rolling: "16 as Pack does and then .. 22"
+abbrev pub rollingTests : List ℕ → ℕ → ℤ → List ℤ → List Test
+rollingTests state n z out =
+    let s = stateFrom state in
+    lengthTest state 64 ∷ lengthTest out 1 ∷ test (valid z) Reading ∷ test (possible s) NoRun ∷ test (continues (s .next) n) NoRun ∷ []
+
+-- ---- the others: the code, then lengths, places and symbols
 
 module _ (code : Code) where
   abbrev pub codeTests : List Test

@@ -1,7 +1,7 @@
 //! Inputs of which no two are alike: a code on another curve with its points in another order, other places, another message.
 use vakhudle::plain::field::{size, width};
 use vakhudle::plain::{fast, Random};
-use vakhudle::{Code, ABSENT, MASK_BYTES, MOST_POINTS, WORKING_SPACE};
+use vakhudle::{Code, ABSENT, MASK_BYTES, MOST_POINTS, ROLLING_STATE, WORKING_SPACE};
 
 /// The codes of a group of rows: all points of curves over one field that have as many as a curve can have.
 #[derive(Clone, Copy)]
@@ -86,9 +86,18 @@ pub fn reading(random: &mut Random) -> i16 {
     random.between(-2_000, 20_000) as i16
 }
 
-/// As many means as a block holds, one of ten absent.
+/// One mean of ten is absent.
+fn mean(random: &mut Random) -> i16 {
+    if random.once_in(10) {
+        ABSENT
+    } else {
+        reading(random)
+    }
+}
+
+/// As many means as a block holds.
 pub fn block_means(kind: &Kind, random: &mut Random) -> Vec<i16> {
-    (0..kind.hours()).map(|_| if random.once_in(10) { ABSENT } else { reading(random) }).collect()
+    (0..kind.hours()).map(|_| mean(random)).collect()
 }
 
 /// One place more than k, in no order, so that k of them always do.
@@ -136,4 +145,16 @@ pub fn day(random: &mut Random) -> (u32, Vec<u32>, Vec<i16>) {
     let stamps: Vec<u32> = (1..=24 * 60).map(|minute| first_hour * 60 + minute).filter(|_| !random.once_in(8)).collect();
     let readings = stamps.iter().map(|_| reading(random)).collect();
     (first_hour, stamps, readings)
+}
+
+/// The state of a run of up to 100 hours from any hour on, the next hour, and its mean.
+pub fn next_hour(random: &mut Random) -> (Vec<u8>, u32, i16) {
+    let mut state = vec![0; ROLLING_STATE];
+    fast::rolling_fresh(&mut state).unwrap();
+    let first_hour = random.below(70_000_000) as u32;
+    let next = first_hour + random.between(0, 100) as u32;
+    for hour in first_hour..next {
+        fast::rolling(&mut state, hour, mean(random), &mut [0]).unwrap();
+    }
+    (state, next, mean(random))
 }

@@ -12,7 +12,7 @@ mod timing;
 use inputs::{Kind, OwnCode};
 use timing::{Bench, Row};
 use vakhudle::plain::{fast, Random};
-use vakhudle::{Answer, Code, MOST_POINTS, WORKING_SPACE};
+use vakhudle::{Answer, Code, MOST_POINTS, ROLLING_STATE, WORKING_SPACE};
 
 fn products(bench: &Bench, field: u8, inputs: usize) {
     let n = 4096;
@@ -177,6 +177,34 @@ fn means(bench: &Bench) {
     );
 }
 
+type Rolling = fn(&mut [u8], u32, i16, &mut [i16]) -> Answer;
+
+/// The next hour of sixteen runs in one measurement. Their states are copied to where they change, in the time of both sides.
+fn rolling(bench: &Bench) {
+    const TOGETHER: usize = 16;
+    let hours = |rolling: Rolling| {
+        move |all: &Vec<(Vec<u8>, u32, i16)>, out: &mut [u8]| {
+            let hours = all.iter().zip(out.chunks_exact_mut(ROLLING_STATE + 2));
+            let each = hours.map(|((before, hour, mean), out)| {
+                let (state, rolling_mean) = out.split_at_mut(ROLLING_STATE);
+                state.copy_from_slice(before);
+                let mut written = [0];
+                let answer = rolling(state, *hour, *mean, &mut written);
+                rolling_mean.copy_from_slice(&written[0].to_le_bytes());
+                answer
+            });
+            each.sum()
+        }
+    };
+    bench.compare(
+        Row::new("rolling, an hour of any run".into(), 4000 / TOGETHER).parts(TOGETHER),
+        TOGETHER * (ROLLING_STATE + 2),
+        |random| (0..TOGETHER).map(|_| inputs::next_hour(random)).collect(),
+        hours(vakhudle::rolling),
+        hours(fast::rolling),
+    );
+}
+
 fn main() {
     // cargo itself adds --bench
     let bench = Bench { wanted: std::env::args().skip(1).filter(|word| !word.starts_with('-')).collect() };
@@ -194,6 +222,7 @@ fn main() {
         packing(&bench, kind);
     }
     means(&bench);
+    rolling(&bench);
     places(&bench, small, 8.0, 20.0);
     places(&bench, large, 20.0, 50.0);
     correct(&bench, small, Some(8.0));

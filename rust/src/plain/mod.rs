@@ -1,5 +1,5 @@
-//! The same in plain Rust. `field`, `curve`, `code`, `places`, `hours` and `sheet` follow the definitions as simply as they can, for tests to compare with;
-//! `fast`, `elimination` and `decoding` are what one would write for speed, for benchmarks to compare with.
+//! The same in plain Rust. `field`, `curve`, `code`, `places`, `hours`, `rolling` and `sheet` follow the definitions as simply as they can, for tests to
+//! compare with; `fast`, `elimination` and `decoding` are what one would write for speed, for benchmarks to compare with.
 pub mod code;
 pub mod curve;
 mod decoding;
@@ -9,6 +9,7 @@ pub mod field;
 pub mod hours;
 pub mod places;
 pub mod random;
+pub mod rolling;
 pub mod sheet;
 
 pub use field::{products, Field};

@@ -63,6 +63,13 @@ impl<T: Filler> Lent<T> {
         Lent { before: all.clone(), all }
     }
 
+    /// This content, amid a border at random.
+    pub fn holding(content: &[T], random: &mut Random) -> Self {
+        let mut lent = Lent::new(content.len(), random);
+        lent.slice().copy_from_slice(content);
+        Lent { before: lent.all.clone(), ..lent }
+    }
+
     pub fn slice(&mut self) -> &mut [T] {
         let end = self.all.len() - BORDER;
         &mut self.all[BORDER..end]
@@ -109,8 +116,31 @@ pub fn agree<T: Filler>(
     (answer, ours)
 }
 
-/// The same for the operations that are lent a working space, too: its first bytes must be zero after acceptance, the rest as it was. `lengths`
-/// are those of the output and the working space; the proved implementation comes first.
+/// The same for the operations that are lent two slices to write in; the proved implementation comes first.
+pub fn agree_on_two<T: Filler, U: Filler, I>(
+    one: Lent<T>,
+    two: Lent<U>,
+    implementations: &[I],
+    run: impl Fn(&I, &mut [T], &mut [U]) -> Answer,
+) -> (Answer, Lent<T>, Lent<U>) {
+    let mut results = implementations.iter().map(|implementation| {
+        let (mut one, mut two) = (one.clone(), two.clone());
+        let answer = run(implementation, one.slice(), two.slice());
+        (answer, one, two)
+    });
+    let (answer, one, two) = results.next().expect("an implementation");
+    for (i, (other, other_one, other_two)) in results.enumerate() {
+        assert_eq!(answer, other, "answer of version {i}");
+        assert_eq!(one.content(), other_one.content(), "what version {i} writes");
+        assert!(two.is_all_equal(&other_two), "the second slice of version {i}");
+    }
+    assert!(one.border_is_unchanged() && two.border_is_unchanged(), "the border of a lent slice");
+    assert!(answer.is_ok() || one.is_unchanged() && two.is_unchanged(), "a refused call wrote");
+    (answer, one, two)
+}
+
+/// The same where the second is a working space: its first bytes must be zero after acceptance, the rest as it was. `lengths` are those of the output
+/// and the working space.
 pub fn agree_with_work<T: Filler, I>(
     lengths: [usize; 2],
     random: &mut Random,
@@ -120,24 +150,10 @@ pub fn agree_with_work<T: Filler, I>(
     let out = Lent::new(lengths[0], random);
     // mostly nowhere zero, so that a byte left as it was shows
     let work = if random.once_in(4) { Lent::new(lengths[1], random) } else { Lent::filled(lengths[1], random.between(1, 255) as u8) };
-    let mut results = implementations.iter().map(|implementation| {
-        let (mut out, mut work) = (out.clone(), work.clone());
-        let answer = run(implementation, out.slice(), work.slice());
-        (answer, out, work)
-    });
-    let (answer, out, work) = results.next().expect("an implementation");
-    for (i, (other, other_out, other_work)) in results.enumerate() {
-        assert_eq!(answer, other, "answer of version {i}");
-        assert_eq!(out.content(), other_out.content(), "what version {i} writes");
-        assert!(work.is_all_equal(&other_work), "the working space of version {i}");
-    }
-    assert!(out.border_is_unchanged() && work.border_is_unchanged(), "the border of a lent slice");
-    match answer {
-        Err(_) => assert!(out.is_unchanged() && work.is_unchanged(), "a refused call wrote"),
-        Ok(_) => {
-            let (zeros, rest) = work.all[BORDER..].split_at(WORKING_SPACE);
-            assert!(zeros.iter().all(|&b| b == 0) && rest == &work.before[BORDER + WORKING_SPACE..], "the working space");
-        }
+    let (answer, out, work) = agree_on_two(out, work, implementations, run);
+    if answer.is_ok() {
+        let (zeros, rest) = work.all[BORDER..].split_at(WORKING_SPACE);
+        assert!(zeros.iter().all(|&b| b == 0) && rest == &work.before[BORDER + WORKING_SPACE..], "the working space");
     }
     (answer, out)
 }
