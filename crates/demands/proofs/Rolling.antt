@@ -10,11 +10,10 @@ use lib.IntN.{ℤ, pos}
 use lib.ListN.{length, replicate}
 use Rattle.basics.specs.declared.Answer.{Answer}
 use Rattle.basics.specs.declared.Answer.the-variants.{Done, Refused}
-use Rattle.basics.specs.declared.Refusal.{Refusal}
 use Rattle.basics.specs.declared.Refusal.the-variants.{Length, Reading, NoRun}
-use Rattle.basics.specs.Outcome.{Outcome, refused, accepted, counted, check, answer, left, Meets}
+use Rattle.basics.specs.Outcome.{accepted, check, answer, Meets}
 use Rattle.basics.specs.SetBits.{Bytes}
-use Rattle.basics.proofs.Outcomes.{passed, check-true, accept, pass, meets-as}
+use Rattle.basics.proofs.Outcomes.{passed, accept, pass, meets-as}
 use Rattle.hours.specs.Means.{absent}
 use Rattle.hours.specs.Packing.{valid}
 use Rattle.rolling.specs.declared.state.RollingState.{RollingState}
@@ -24,10 +23,18 @@ use Rattle.rolling.specs.Bytes.{stateBytes, stateFrom, freshOutcome, rollingOut
 use Rattle.rolling.proofs.Runs.{run-more, run-valid, run-small, run-follows, run-before, figure-run}
 use Rattle.rolling.proofs.Reached.{possible-exactly}
 use Rattle.rolling.proofs.Kept.{state-read, step-run, rolling-run, given-bytes}
-use Rattle.demands.specs.Rolling.{Step, Rolls, Continued, Gives, RollingDay}
+use Rattle.demands.specs.Rolling.{Step, Rolls, Gives, RollingDay}
 use Rattle.demands.proofs.Passing.{on, refused-on, decided, accepted-on}
 use Rattle.demands.proofs.Order.{refused-left}
 use Rattle.demands.proofs.Blocks.{done-accepted}
+
+-- what is done has passed both tests, and is what was to be accepted
+both-passed : {M : Type 0} {v f : Bool} {l old new : M} {r : Answer} → Meets (check v Reading (check f NoRun (accepted l))) r old new → r ≡ Done
+    → (v ≡ true) × (f ≡ true) × (l ≡ new)
+both-passed m d =
+    let (v, rest) = passed Reading (done-accepted _ (rw d at m)) in
+    let (f, same) = passed NoRun rest in
+    (v, f, cc same)
 
 -- ---- a step from the state of a run, by value
 
@@ -41,9 +48,7 @@ module _ (hs : List Hour) (h : Hour) (r : Answer) (new : RollingState) (mean : �
 
   ends : r ≡ Done → (run (h ∷ hs) ≡ true) × (new ≡ stateOf (h ∷ hs)) × (mean ≡ rollingMean (h ∷ hs))
   ends d =
-      let (v, rest) = passed Reading (done-accepted _ (rw d at by-steps)) in
-      let (f, same) = passed NoRun rest in
-      let is : given ≡ (new, mean) = cc same in
+      let (v, f, is) = both-passed by-steps d in
       let longer = run-more h hs v small f before in
       (longer, sym (ap (λ p. p .0) is), sym (ap (λ p. p .1) is) ∙ figure-run (h ∷ hs) longer)
 
@@ -78,9 +83,7 @@ module _ (hs : List Hour) (c : Step) (r : run hs ≡ true) (is-state : c .state 
   pub done-run : c .answer ≡ Done → Done-run
   done-run d =
       let one = eqb-true (length (c .out)) 1 (passed Length (passed Length (done-accepted _ (rw d at (m .meets))) .1) .0) in
-      let (v, rest) = passed Reading (done-accepted _ (rw d at (by-run one))) in
-      let (f, same) = passed NoRun rest in
-      let new : written ≡ (c .state-after, c .out-after) = cc same in
+      let (v, f, new) = both-passed (by-run one) d in
       let longer-run = run-more (c .hour) hs v (m .hour-small) f r in
       record {
         is-run = longer-run;
