@@ -1,5 +1,5 @@
--- Lists: tests of their elements, and lists made by a rule.
-use Prim.Native.Nat.{ℕ, zero, suc, _≤_}
+-- Lists: tests of their elements, lists made by a rule, and sums.
+use Prim.Native.Nat.{ℕ, zero, suc, _+_, _≤_}
 use mathlib.Core.Bool.{Bool, true, false, cond, not, _&&_, _||_}
 use mathlib.Core.List.{List, [], _∷_, _++_}
 use mathlib.Core.Path.{_≡_}
@@ -31,6 +31,11 @@ module _ {A : Type 0} where
   abbrev pub table : (ℕ → A) → ℕ → List A
   table f zero = []
   table f (suc n) = table f n ++ (f n ∷ [])
+
+  -- f of each element, added up
+  abbrev pub sumOver : (A → ℕ) → List A → ℕ
+  sumOver f [] = 0
+  sumOver f (a ∷ l) = f a + sumOver f l
 
   -- l at the front of what held old, and the rest as it was
   abbrev pub written : List A → List A → List A

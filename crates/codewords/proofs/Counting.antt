@@ -1,13 +1,14 @@
--- Lists without repetition, and the comparison of their lengths: this is how codewords and functions are counted.
-use Prim.Native.Nat.{suc, _≤_, zero-le, suc-le-suc}
+-- Lists without repetition, and the comparison of sums over them and of their lengths: this is how codewords and functions are counted.
+use Prim.Native.Nat.{ℕ, suc, _+_, _≤_, zero-le}
 use mathlib.Core.Path.{_≡_, refl, sym, _∙_, ap}
 use mathlib.Core.Bool.{Bool, true, false, not, cond}
 use mathlib.Core.Logic.{_⊎_, inl, inr}
 use mathlib.Core.List.{List, [], _∷_, _++_, map, List·Memᴰ as In, List·Memᴰ·head as here, List·Memᴰ·tail as there, List·Memᴰ·cases-cons as cases-cons, List·Memᴰ·append-cases as in-append, Memᴰ·of-map as map-in}
 use native.Mathlib.Nat.{le-antisymm}
+use native.Mathlib.Omega.{arith}
 use lib.ListN.{length}
 use borrow.Author.Tests.{not-true}
-use Rattle.basics.specs.Lists.{all, filter, different}
+use Rattle.basics.specs.Lists.{all, filter, different, sumOver}
 use Rattle.basics.proofs.Lists.{both-left, both-right, both-true}
 use Rattle.elliptic.proofs.Points.{All, All.nil, All.cons, all-map}
 use Rattle.codewords.proofs.Tests.{fails, in-all, all-in, all-true, true-all, filter-in}
@@ -67,14 +68,14 @@ module _ {A : Type 0} where
   only x (add {a} nil u) i f = ap (λ y. y ∷ []) (f a (here refl))
   only x (add {a} (cons {a = b} h hs) u) i f = absurd (h (f a (here refl) ∙ sym (f b (there (here refl)))))
 
-  -- the list without an element
+  -- the list without an element: any sum over it is less by that element's share
   pub record Without (a : A) (m : List A) : Type 0 where
     pub rest : List A
-    pub shorter : length m ≡ suc (length rest)
+    pub less : (f : A → ℕ) → sumOver f m ≡ f a + sumOver f rest
     pub others : (b : A) → In b m → (b ≡ a → ⊥) → In b rest
 
   pub without : {a : A} {m : List A} → In a m → Without a m
-  without {a} (here {x = c} {xs = l} e) = record { rest = l; shorter = refl; others = λ b i n. by b n (cases-cons i) }
+  without {a} (here {x = c} {xs = l} e) = record { rest = l; less = λ f. ap (λ c. f c + sumOver f l) (sym e); others = λ b i n. by b n (cases-cons i) }
     where
       by : (b : A) → (b ≡ a → ⊥) → (b ≡ c) ⊎ In b l → In b l
       by b n (inl f) = absurd (n (f ∙ sym e))
@@ -82,17 +83,28 @@ module _ {A : Type 0} where
   without {a} (there {x = c} {xs = l} i) = step (without i)
     where
       step : Without a l → Without a (c ∷ l)
-      step w = record { rest = c ∷ w .rest; shorter = ap suc (w .shorter); others = λ b j n. by b n (cases-cons j) }
+      step w = record { rest = c ∷ w .rest; less = λ f. omega (arith, w .less f); others = λ b j n. by b n (cases-cons j) }
         where
           by : (b : A) → (b ≡ a → ⊥) → (b ≡ c) ⊎ In b l → In b (c ∷ w .rest)
           by b n (inl f) = here f
           by b n (inr j) = there (w .others b j n)
 
-  pub fits : {l m : List A} → Unique l → ((a : A) → In a l → In a m) → length l ≤ length m
-  fits none s = zero-le
-  fits (add {a} {l} h u) s =
+  pub sum-fits : (f : A → ℕ) {l m : List A} → Unique l → ((a : A) → In a l → In a m) → sumOver f l ≤ sumOver f m
+  sum-fits f none s = zero-le
+  sum-fits f (add {a} {l} h u) s =
       let w = without (s a (here refl)) in
-      rw (w .shorter) (suc-le-suc (fits u (λ b i. w .others b (s b (there i)) (λ e. in-all i h (sym e)))))
+      omega (arith, w .less f, sum-fits f u (λ b i. w .others b (s b (there i)) (λ e. in-all i h (sym e))))
+
+  -- the length is the sum of ones
+  ones : (l : List A) → length l ≡ sumOver (λ a. 1) l
+  ones [] = refl
+  ones (a ∷ l) = omega (arith, ones l)
+
+  pub shorter : {a : A} {m : List A} (w : Without a m) → length m ≡ suc (length (w .rest))
+  shorter {m = m} w = omega (arith, ones m, ones (w .rest), w .less (λ a. 1))
+
+  pub fits : {l m : List A} → Unique l → ((a : A) → In a l → In a m) → length l ≤ length m
+  fits {l} {m} u s = omega (arith, ones l, ones m, sum-fits (λ a. 1) u s)
 
   pub same-length : {l m : List A} → Unique l → Unique m → ((a : A) → In a l → In a m) → ((a : A) → In a m → In a l) → length l ≡ length m
   same-length u v s t = le-antisymm (fits u s) (fits v t)

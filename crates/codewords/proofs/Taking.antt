@@ -20,7 +20,7 @@ use Rattle.codewords.specs.Code.{Code, arithmetic, q}
 use Rattle.codewords.specs.Codewords.{place, agrees, allLists, functions, word, pointAt, codewords, agreed, dependent, takesAll}
 use Rattle.codewords.specs.Computed.{pointsOf}
 use Rattle.codewords.proofs.Tests.{all-in, in-all, all-true, true-all, any-true, true-any, fails}
-use Rattle.codewords.proofs.Counting.{Without, without, fits}
+use Rattle.codewords.proofs.Counting.{Without, without, shorter, fits}
 use Rattle.codewords.proofs.Listing.{Listed, in-lists, lists-in, unique-lists}
 use Rattle.codewords.proofs.Accepted.{Accepted, laws}
 use Rattle.codewords.proofs.Coefficients.{zeros-of, evaluate-zero, zero-coefficients}
@@ -66,7 +66,7 @@ module _ (code : Code) (a : Accepted code) where
     -- k dependent places: the relation and 0 take the same symbols, so the other functions are too few
     pub takes-not : dependent code J ≡ true → takesAll code J ≡ false
     unfolding functions
-    takes-not d = fails (takesAll code J) (λ t. omega (arith, length-map (others .rest) at-places, others .shorter, fits (unique-lists (q code) (code .k)) (λ us i. by t us (lists-in (q code) (code .k) i))))
+    takes-not d = fails (takesAll code J) (λ t. omega (arith, length-map (others .rest) at-places, shorter others, fits (unique-lists (q code) (code .k)) (λ us i. by t us (lists-in (q code) (code .k) i))))
       where
         at-places : List ℕ → List ℕ
         at-places f = values (arithmetic code) f (pointsOf code J)
