@@ -3,6 +3,9 @@ mod Passing
 mod Ones
 mod Rows
 mod Order
+pub mod Ranking
+mod RankLists
+mod RankOrder
 pub mod Fields
 pub mod Blocks
 pub mod Hours
@@ -11,6 +14,7 @@ pub mod Masks
 pub mod Demand1
 pub mod Demand2
 pub mod Demand3
+pub mod BestPick
 pub mod Correction
 pub mod Day
 pub mod Starred

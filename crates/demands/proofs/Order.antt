@@ -106,8 +106,11 @@ code-first : (code : Code) → first (codeTests code) ≡ Done → codeAnswer co
 unfolding codeAnswer answer
 code-first code h = ap answer (order-done (codeTests code) (accepted tt) h)
 
--- the same where the code's tests come first
+-- where the code's tests come first, and all hold
+pub code-held : (code : Code) (ts : List Test) → first (codeTests code ++ ts) ≡ Done → (codeAnswer code ≡ Done) × Hold ts
+code-held code ts h = let (done, held) = first-append (codeTests code) ts h in (code-first code done, first-hold ts held)
+
 pub code-answers : {M : Type 0} (code : Code) (ns : List ℕ) (ts : List Test) (o : Outcome M) {r : Answer} {old new : M} {whole : Type 0} → numbers (codeTests code ++ ts) ≡ ns → Accepts o
     → (codeAnswer code ≡ Done → Hold ts → Meets o r old new → whole) → Meets (inOrder (codeTests code ++ ts) o) r old new → Answers ns (codeTests code ++ ts) r old new whole
 code-answers code ns ts o n a w =
-    answers ns (codeTests code ++ ts) o n a (λ h. let (done, held) = first-append (codeTests code) ts h in w (code-first code done) (first-hold ts held))
+    answers ns (codeTests code ++ ts) o n a (λ h. let (done, held) = code-held code ts h in w done held)

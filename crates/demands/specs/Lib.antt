@@ -5,6 +5,8 @@ pub mod Fields
 pub mod Demand1
 pub mod Demand2
 pub mod Demand3
+pub mod Ranking
+pub mod BestPick
 pub mod Correction
 pub mod Hours
 pub mod Rolling
