@@ -141,6 +141,14 @@ pub struct Listed {
 }
 
 impl Listed {
+    /// Of a code over 4 elements.
+    pub fn new(code: OwnCode) -> Self {
+        let functions: Vec<Vec<u8>> = (0..1u32 << (2 * code.k)).map(|f| (0..code.k).map(|j| (f >> (2 * j) & 3) as u8).collect()).collect();
+        let value = |f: &[u8], i| code::value(2, f, code.xs[i], code.ys[i]);
+        let words = functions.iter().map(|f| (0..code.n()).map(|i| value(f, i)).collect()).collect();
+        Listed { code, functions, words }
+    }
+
     /// The indices of the codewords that have these symbols at these places.
     pub fn agreeing(&self, places: &[u16], symbols: &[u8]) -> Vec<usize> {
         let agrees = |word: &[u8]| places.iter().zip(symbols).all(|(&p, &s)| word[p as usize - 1] == s);
@@ -156,12 +164,7 @@ impl Listed {
 /// The definitions themselves: every curve over 4 elements with all its points, every dimension up to 4, and all codewords.
 pub fn listed_codes() -> impl Iterator<Item = Listed> {
     let codes = whole_codes(2, |_| true).flat_map(|code| (1..code.n().min(5)).map(move |k| OwnCode { k, ..code.clone() }));
-    codes.map(|code| {
-        let functions: Vec<Vec<u8>> = (0..1u32 << (2 * code.k)).map(|f| (0..code.k).map(|j| (f >> (2 * j) & 3) as u8).collect()).collect();
-        let value = |f: &[u8], i| code::value(2, f, code.xs[i], code.ys[i]);
-        let words = functions.iter().map(|f| (0..code.n()).map(|i| value(f, i)).collect()).collect();
-        Listed { code, functions, words }
-    })
+    codes.map(Listed::new)
 }
 
 /// Some lists of k different places or more for each of these codes.
