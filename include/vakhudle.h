@@ -141,7 +141,8 @@ int32_t vakhudle_relation(uint8_t field, uint8_t g1, uint8_t g2, uint8_t g3, uin
                           size_t coefficients_out_len, uint8_t *work, size_t work_len);
 
 /* Of ranked_len places, best first and at most n, the first k that are not dependent, in their order: ranks 1 to k, or ranks 1 to k - 1 and k +
- * 1. Refuses code, 8, 9, 10, 13, 12 (just k places, and dependent). */
+ * 1. Whatever numbers the ranks are given that never rise, no k of these places that are not dependent have a larger total. Refuses code, 8, 9,
+ * 10, 13, 12 (just k places, and dependent). */
 int32_t vakhudle_pick(uint8_t field, uint8_t g1, uint8_t g2, uint8_t g3, uint8_t g4, uint8_t g6, const uint8_t *xs, size_t xs_len,
                       const uint8_t *ys, size_t ys_len, size_t k, const uint16_t *ranked, size_t ranked_len, uint16_t *places_out,
                       size_t places_out_len, uint8_t *work, size_t work_len);
