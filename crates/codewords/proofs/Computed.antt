@@ -17,7 +17,7 @@ use Rattle.codewords.specs.Code.{Code, arithmetic, n, points, codeAnswer
 use Rattle.codewords.specs.Codewords.{the, below, place, index, symbolAt, agrees, unitMessage, pointAt, choice, symbols, message, functions, word, codewords, codeword, coefficients, recovered, agreeing, agreed, agreeingFunctions}
 use Rattle.codewords.specs.Codewords.{systematicWord, systematicFunction, row, matrix, dependent, usable, relation}
 use Rattle.codewords.specs.Computed.{Enough, pointsOf, lastZero, solved, solution, Computed}
-use Rattle.codewords.proofs.Tests.{all-in, true-any, any-false, filter-in, in-filter}
+use Rattle.codewords.proofs.Tests.{all-in, true-any, any-false, filter-in, in-filter, filter-same}
 use Rattle.codewords.proofs.Counting.{unique-map}
 use Rattle.codewords.proofs.Listing.{below-in, unique-below}
 use Rattle.codewords.proofs.Accepted.{Accepted, laws, accepted-done}
@@ -37,10 +37,6 @@ the-first false e g = absurd (omega (arith, ap length e, ap length g))
 map-one : {A B : Type 0} (h : A → B) (b : Bool) (x : A) → map h (cond b (x ∷ []) []) ≡ cond b (h x ∷ []) []
 map-one h true x = refl
 map-one h false x = refl
-
-filter-as : {A : Type 0} (p r : A → Bool) (l : List A) → ((x : A) → p x ≡ r x) → filter p l ≡ filter r l
-filter-as p r [] h = refl
-filter-as p r (x ∷ l) h = ap₂ (λ b m. cond b (x ∷ m) m) (h x) (filter-as p r l h)
 
 -- of one element or none, by a test
 one-cond : {A : Type 0} (b : Bool) (x : A) {y : A} → cond b (x ∷ []) [] ≡ y ∷ [] → b ≡ true
@@ -173,7 +169,7 @@ module _ (code : Code) (a : Accepted code) where
   every-function : (w : List ℕ) → coefficients code w ≡ agreeingFunctions code every w
   unfolding coefficients agreeingFunctions
   every-function w =
-      filter-as (λ f. same (word code f) w) (λ f. agrees (word code f) every w) (functions code) (λ f. sym (every-agrees (word code f) w (word-length code a f)))
+      filter-same (λ f. same (word code f) w) (λ f. agrees (word code f) every w) (functions code) (λ f i. sym (every-agrees (word code f) w (word-length code a f)))
 
   module _ (w : List ℕ) (s : symbols code w ≡ true) (e : length w ≡ n code) where
     abbrev g : List ℕ

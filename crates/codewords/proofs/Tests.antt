@@ -1,5 +1,5 @@
 -- What a test of a list says of its elements, one by one.
-use mathlib.Core.Path.{_≡_, refl, sym, _∙_, ap, subst}
+use mathlib.Core.Path.{_≡_, refl, sym, _∙_, ap, ap₂, subst}
 use mathlib.Core.Bool.{Bool, true, false, cond, _||_, true≢false}
 use mathlib.Core.Logic.{inl, inr, _⊎_}
 use mathlib.Core.List.{List, [], _∷_, map, List·Memᴰ as In, List·Memᴰ·head as here, List·Memᴰ·tail as there, List·Memᴰ·cases-cons as cases-cons}
@@ -74,6 +74,11 @@ module _ {A : Type 0} where
       by : (c : Bool) → In a (filter p l) → In a (cond c (b ∷ filter p l) (filter p l))
       by true i = there i
       by false i = i
+
+  -- two tests that say the same of the list
+  pub filter-same : (p r : A → Bool) (l : List A) → ((a : A) → In a l → p a ≡ r a) → filter p l ≡ filter r l
+  filter-same p r [] h = refl
+  filter-same p r (a ∷ l) h = ap₂ (λ b m. cond b (a ∷ m) m) (h a (here refl)) (filter-same p r l (λ b i. h b (there i)))
 
 pub filter-map : {A B : Type 0} (p : B → Bool) (f : A → B) (l : List A) → filter p (map f l) ≡ map f (filter (λ a. p (f a)) l)
 filter-map p f [] = refl

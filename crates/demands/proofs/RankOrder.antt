@@ -11,7 +11,7 @@ use lib.ListN.{length, getD, take}
 use borrow.Author.Tests.{eqb-true, eq-eqb, ne-eqb}
 use Rattle.basics.specs.Lists.{filter}
 use Rattle.elliptic.proofs.Points.{All.nil, All.cons}
-use Rattle.codewords.proofs.Tests.{in-all, all-in, any-true, true-any, fails}
+use Rattle.codewords.proofs.Tests.{in-all, all-in, any-true, true-any, filter-same, fails}
 use Rattle.codewords.proofs.Counting.{Apart, Unique, Unique.none, Unique.add}
 use Rattle.codewords.proofs.Places.{all-at}
 use Rattle.demands.specs.Ranking.{isIn, rank, inRankOrder, ranks}
@@ -112,10 +112,6 @@ rank-past (suc j) [] h n = absurd (omega arith)
 rank-past (suc j) (r ∷ m) h n = rw (rank-later r m (λ e. n (here (sym e)))) (suc-le-suc (rank-past j m (le-of-suc-le-suc h) (λ i. n (there i))))
 
 -- ---- a choice of its places, written in rank order, is it
-
-filter-same : (s t : ℕ → Bool) (m : List ℕ) → ((p : ℕ) → In p m → s p ≡ t p) → filter s m ≡ filter t m
-filter-same s t [] h = refl
-filter-same s t (p ∷ m) h = ap₂ (λ b l. cond b (p ∷ l) l) (h p (here refl)) (filter-same s t m (λ r i. h r (there i)))
 
 pub kept-order : {l m : List ℕ} → Unique m → Kept l m → inRankOrder m l ≡ l
 kept-order none empty = refl
