@@ -6,7 +6,7 @@ use lib.IntN.{ℤ, pos, negℤ}
 use Rattle.basics.specs.declared.Refusal.{Refusal}
 use Rattle.basics.specs.declared.Refusal.the-variants.{FieldNumber, CurveCoefficient, Singular, PointCount, OffCurve, RepeatedPoint, Dimension}
 use Rattle.basics.specs.declared.Refusal.the-variants.{Length, Place, RepeatedPlace, Symbol, Dependent, TooFew, NoCodeword, Independent}
-use Rattle.basics.specs.declared.Refusal.the-variants.{Reading, NeverPacked, StampOrder, Hour, SheetShape, TooFar, NoRun}
+use Rattle.basics.specs.declared.Refusal.the-variants.{Reading, NeverPacked, StampOrder, Hour, SheetShape, TooFar, NoRun, Budget}
 use Rattle.basics.specs.declared.Answer.{Answer}
 use Rattle.basics.specs.declared.Answer.the-variants.{Done, Counted, Refused}
 
@@ -34,6 +34,7 @@ number Hour = 19
 number SheetShape = 20
 number TooFar = 21
 number NoRun = 22
+number Budget = 23
 
 -- what an answer counts
 abbrev pub counts : Answer → ℕ

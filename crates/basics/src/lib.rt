@@ -30,6 +30,7 @@ pub enum Refusal {
     SheetShape,
     TooFar,
     NoRun,
+    Budget,
 }
 
 // Accepted, with a count where the operation has one, or refused.
@@ -72,6 +73,7 @@ pub fn number(refusal: Refusal) -> u8
         Refusal::SheetShape => 20,
         Refusal::TooFar => 21,
         Refusal::NoRun => 22,
+        Refusal::Budget => 23,
     }
 }
 

@@ -8,7 +8,7 @@ use lib.ListN.{getD}
 use Rattle.basics.specs.declared.Refusal.{Refusal}
 use Rattle.basics.specs.declared.Refusal.the-variants.{FieldNumber, CurveCoefficient, Singular, PointCount, OffCurve, RepeatedPoint, Dimension}
 use Rattle.basics.specs.declared.Refusal.the-variants.{Length, Place, RepeatedPlace, Symbol, Dependent, TooFew, NoCodeword, Independent}
-use Rattle.basics.specs.declared.Refusal.the-variants.{Reading, NeverPacked, StampOrder, Hour, SheetShape, TooFar, NoRun}
+use Rattle.basics.specs.declared.Refusal.the-variants.{Reading, NeverPacked, StampOrder, Hour, SheetShape, TooFar, NoRun, Budget}
 use Rattle.basics.specs.declared.Answer.{Answer}
 use Rattle.basics.specs.declared.Answer.the-variants.{Done, Counted, Refused}
 use Rattle.basics.specs.Outcome.{Outcome, answer, number, status, Meets, Reports}
@@ -23,7 +23,7 @@ reported {o = o} m = (answer o, record { answers = refl; leaves = m .leaves }, m
 refusals : List Refusal
 refusals =
     FieldNumber ∷ CurveCoefficient ∷ Singular ∷ PointCount ∷ OffCurve ∷ RepeatedPoint ∷ Dimension ∷ Length ∷ Place ∷ RepeatedPlace ∷ Symbol ∷ Dependent ∷ TooFew
-    ∷ NoCodeword ∷ Independent ∷ Reading ∷ NeverPacked ∷ StampOrder ∷ Hour ∷ SheetShape ∷ TooFar ∷ NoRun ∷ []
+    ∷ NoCodeword ∷ Independent ∷ Reading ∷ NeverPacked ∷ StampOrder ∷ Hour ∷ SheetShape ∷ TooFar ∷ NoRun ∷ Budget ∷ []
 
 named : (e : Refusal) → (suc (number e - 1) ≡ number e) × (getD refusals (number e - 1) FieldNumber ≡ e)
 unfolding refusals
@@ -49,6 +49,7 @@ named Hour = (refl, refl)
 named SheetShape = (refl, refl)
 named TooFar = (refl, refl)
 named NoRun = (refl, refl)
+named Budget = (refl, refl)
 
 minus : (e : Refusal) → status (Refused e) ≡ negsuc (number e - 1)
 minus e = ap (λ n. negℤ (pos n)) (sym (named e .0))

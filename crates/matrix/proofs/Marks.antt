@@ -68,9 +68,11 @@ module _ (m k : ℕ) (J px l u a b a′ b′ : List ℕ) (firsts : (j : ℕ) →
       let kept = quotient-kept (getD px s 0) (getD l s 0) (getD u s 0) in
       ap₂ (λ x y. cond (eqb (getD px s 0) (getD px j 0)) (1 ⊕ x) y) (total-as _ _ k kept) (kept j h)
 
+  pub row-kept : (j : ℕ) → j < k → rowAt m k J px l u a′ b′ j ≡ rowAt m k J px l u a b j
+  row-kept j h = ap (λ r. set r (getD J j 0 - 1) 1) (table-as _ _ (length px) (λ t g. ap (λ y. cond (eqb (getD (frees J px) t 0) 0) 0 y) (entry-kept j _ h)))
+
   pub rows-kept : table (rowAt m k J px l u a′ b′) k ≡ table (rowAt m k J px l u a b) k
-  rows-kept =
-      table-as _ _ k (λ j h. ap (λ r. set r (getD J j 0 - 1) 1) (table-as _ _ (length px) (λ t g. ap (λ y. cond (eqb (getD (frees J px) t 0) 0) 0 y) (entry-kept j _ h))))
+  rows-kept = table-as _ _ k row-kept
 
 -- the entry is the part where the coordinates differ, and else what the sums leave
 pub row-complete : (m k : ℕ) (J px l u a b : List ℕ) {sums out row : List ℕ} {i : ℕ} → Indexed k (length px) (frees J px) a b → Parts m k px l u a b sums out k → i < k

@@ -274,11 +274,8 @@ module _ {code : Code} {J : List ℕ} (p : Placed code J) where
               ∙ sym (ap (value j) e ∙ at-place j j h h ∙ ap (λ y. cond y 1 0) (eq-eqb j j refl))
           at t g (no d) = getD-set-other (table (symbolAt (code .k) free entry) n) c t 1 0 d ∙ getD-table (symbolAt (code .k) free entry) n t 0 g ∙ away t g d (free-two J t)
 
-      the-rows : joined (table (rowAt m (code .k) J px l u a b) (code .k)) ≡ joined (matrix code J)
-      unfolding matrix
-      the-rows =
-          ap joined (table-as (rowAt m (code .k) J px l u a b) (λ j. row code J (index j)) (code .k)
-          (λ j h. ap (λ y. set (table (symbolAt (code .k) (table (freeAt J) y) (entryAt m px l u a b (code .k) j)) y) (getD J j 0 - 1) 1) (ax .size) ∙ the-symbols j h))
+      pub the-row-at : (j : ℕ) → j < code .k → rowAt m (code .k) J px l u a b j ≡ row code J (index j)
+      the-row-at j h = ap (λ y. set (table (symbolAt (code .k) (table (freeAt J) y) (entryAt m px l u a b (code .k) j)) y) (getD J j 0 - 1) 1) (ax .size) ∙ the-symbols j h
 
 -- ---- what the arrays say
 
@@ -286,11 +283,17 @@ module _ {code : Code} {J : List ℕ} (p : Placed code J) (full : length J ≡ c
   pub decides : {r : Bool} → r ≡ eqb (getD (cond (z .turned) u l) (code .k - 1) 0) 0 → usable code J ≡ not r
   decides = zero-decides p full (w .firsts) (w .seconds) l u z (w .shown)
 
-  -- the last point is added, and the rows are written
-  pub completes : {l′ u′ a′ b′ : List ℕ} → usable code J ≡ true → RowsStep (code .field) (code .k - 1) px (raisedOf (code .k - 1) (cond (z .turned) u l) (cond (z .turned) l u)) l u a b l′ u′ a′ b′
-      → joined (table (rowAt (code .field) (code .k) J px l′ u′ a′ b′) (code .k)) ≡ joined (matrix code J)
-  completes works step =
+  -- the last point is added, and then each row is that of the matrix
+  pub completed : {l′ u′ a′ b′ : List ℕ} → usable code J ≡ true → RowsStep (code .field) (code .k - 1) px (raisedOf (code .k - 1) (cond (z .turned) u l) (cond (z .turned) l u)) l u a b l′ u′ a′ b′
+      → (j : ℕ) → j < code .k → rowAt (code .field) (code .k) J px l′ u′ a′ b′ j ≡ row code J (index j)
+  completed works step =
       let next : code .k - 1 + 1 ≡ code .k = omega (arith, accepted p .k-least) in
       let rows = rows-next (accepted p .field) px (w .py) (code .k) (code .k - 1) (omega (arith, accepted p .k-least)) (omega (arith, w .firsts .size, accepted p .k-least, accepted p .k-most))
       (able p full (w .firsts) (w .seconds)) l u z (w .shown) (w .rows) step in
-      the-rows p full (w .firsts) (w .seconds) works (rw next at rows)
+      the-row-at p full (w .firsts) (w .seconds) works (rw next at rows)
+
+  -- and they are all written
+  pub completes : {l′ u′ a′ b′ : List ℕ} → usable code J ≡ true → RowsStep (code .field) (code .k - 1) px (raisedOf (code .k - 1) (cond (z .turned) u l) (cond (z .turned) l u)) l u a b l′ u′ a′ b′
+      → joined (table (rowAt (code .field) (code .k) J px l′ u′ a′ b′) (code .k)) ≡ joined (matrix code J)
+  unfolding matrix
+  completes {l′} {u′} {a′} {b′} works step = ap joined (table-as (rowAt (code .field) (code .k) J px l′ u′ a′ b′) (λ j. row code J (index j)) (code .k) (completed works step))

@@ -53,7 +53,7 @@ pub fn begin_rows(
 }
 
 // The indices of the points that are not chosen, behind the factors. `marks` marks these points, and is lent for that.
-fn index_rest(k: usize, places: &[u16], a: &mut [u8], b: &mut [u8], marks: &mut [u8])
+pub fn index_rest(k: usize, places: &[u16], a: &mut [u8], b: &mut [u8], marks: &mut [u8])
     requires { ⌜ Places (length (now marks)) (now places) × Marked k (frees (now places) (now marks)) × (length (now a) ≡ length (now marks)) × (length (now b) ≡ length (now marks)) ⌝ }
     ensures { λ _. ⌜ Behind k (frees (now (places .entry)) (now (marks .entry))) (now (a .entry)) (now (b .entry)) (now (a .exit)) (now (b .exit)) ⌝ }
 {
