@@ -1,0 +1,23 @@
+-- What request S-7 promises of its definitions.
+pub mod Ranking
+pub mod Cheapest
+pub mod Each
+pub mod Patterns
+pub mod Totals
+pub mod Changes
+pub mod Words
+pub mod Tried
+pub mod Best
+pub mod Promises
+pub mod Weights
+pub mod Classes
+pub mod Parts
+pub mod Distinct
+pub mod Falling
+pub mod Left
+pub mod Gap
+pub mod Linear
+pub mod Computed
+pub mod Runs
+pub mod Slots
+pub mod Cases
