@@ -1,0 +1,4 @@
+-- Laws of the rows at picked places.
+pub mod Stored
+pub mod Rows
+pub mod Difference

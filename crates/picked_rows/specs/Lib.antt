@@ -1,0 +1,2 @@
+-- What the working space holds of the rows.
+pub mod Stored

@@ -1,0 +1,2 @@
+-- Laws of ranked places.
+pub mod Inserted

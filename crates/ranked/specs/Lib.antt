@@ -1,0 +1,2 @@
+-- Ranked places.
+pub mod Ranked

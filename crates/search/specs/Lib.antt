@@ -1,0 +1,3 @@
+-- What the search keeps, and what it finds.
+pub mod Found
+pub mod Search

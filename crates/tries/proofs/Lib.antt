@@ -1,0 +1,3 @@
+-- Laws of the pass and of the cheapest multiple.
+pub mod Gathering
+pub mod Choosing

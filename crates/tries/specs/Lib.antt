@@ -1,0 +1,3 @@
+-- What a pass over the places gathers, and the cheapest multiple.
+pub mod Gathered
+pub mod Multiples
