@@ -35,7 +35,8 @@ enum vakhudle_refusal {
     VAKHUDLE_HOUR = 19,             /* an hour is out of range */
     VAKHUDLE_SHEET_SHAPE = 20,      /* a job sheet of another shape */
     VAKHUDLE_TOO_FAR = 21,          /* no codeword is near enough */
-    VAKHUDLE_NO_RUN = 22            /* no run of hours gives the rolling state, or the hour is not the next */
+    VAKHUDLE_NO_RUN = 22,           /* no run of hours gives the rolling state, or the hour is not the next */
+    VAKHUDLE_BUDGET = 23            /* the budget is not 1 to 65,535 */
 };
 
 /* Field number m, 2 to 8, is the field of q = 2^m elements, whose symbols have m bits, with the modulus 7, B, 13, 25, 43, 89, 11D (hexadecimal). Field
@@ -158,6 +159,21 @@ int32_t vakhudle_rebuild(uint8_t field, uint8_t g1, uint8_t g2, uint8_t g3, uint
 int32_t vakhudle_correct(uint8_t field, uint8_t g1, uint8_t g2, uint8_t g3, uint8_t g4, uint8_t g6, const uint8_t *xs, size_t xs_len,
                          const uint8_t *ys, size_t ys_len, size_t k, const uint8_t *received, size_t received_len, uint8_t *symbols_out,
                          size_t symbols_out_len, uint8_t *work, size_t work_len);
+
+/* The cheapest codeword within a budget of 1 to 65,535 tries. Each of the n received symbols has a trust, 0 to 255; a codeword costs the total trust of
+ * the places where it differs from the received ones. All places are ranked by trust, higher first, equal trust by lower place, and k of them picked as
+ * vakhudle_pick does. Tried is the codeword that agrees with the received symbols at the picked places, then those with one picked place changed, then
+ * two. Single places go from the last picked to the first, each with its symbol exclusive-or 1, 2 up to q - 1; pairs go by their later picked place,
+ * then the earlier, in that same direction, and for each pair by the change at the later place, 1 up to q - 1, and within it by that at the earlier.
+ * Of equally cheap codewords the one tried first is written. figures_out has its cost, the tries made, which are the budget or all of these tries if they
+ * are fewer, and the gap: the cost less the least total trust that any untried change of picked places has, of however many places, and 0 if that is
+ * negative or nothing is untried. No codeword is cheaper by more than the gap, and a larger budget never gives a dearer one. figures_out_len is
+ * VAKHUDLE_FIGURES. Refuses code, 8, 11, 23. */
+#define VAKHUDLE_FIGURES 3
+int32_t vakhudle_best(uint8_t field, uint8_t g1, uint8_t g2, uint8_t g3, uint8_t g4, uint8_t g6, const uint8_t *xs, size_t xs_len,
+                      const uint8_t *ys, size_t ys_len, size_t k, const uint8_t *received, size_t received_len, const uint8_t *trusts,
+                      size_t trusts_len, uint32_t budget, uint8_t *symbols_out, size_t symbols_out_len, uint32_t *figures_out,
+                      size_t figures_out_len, uint8_t *work, size_t work_len);
 
 #ifdef __cplusplus
 }

@@ -3,7 +3,7 @@
 
 All three have the same functions in the same order, which take the same parameters, by name and type, and return the same. They are compared as Rust
 writes them. A slice of an export is two parameters, `xs: &[u8]` for one `xs: *const u8, xs_len: usize`, and `&mut [u8]` for one `*mut u8`; what an
-export calls `out`, the others call by what it takes, as `symbols_out`.
+export calls `out`, the others call by what it takes, as `symbols_out`. An export with two such lists calls them as the others do.
 """
 import itertools
 import pathlib
@@ -93,6 +93,8 @@ def functions(file):
 def short(function):
     """`symbols_out` as an export calls it."""
     name, parameters, returned = function
+    if sum("_out:" in p for p in parameters) > 1:
+        return function
     return name, [re.sub(r"^[a-z]+_out", "out", p) for p in parameters], returned
 
 

@@ -16,6 +16,12 @@ pub const MASK_BYTES: usize = 40;
 /// The least length of the working space that some operations are lent. After acceptance this many bytes of it are zero, and the rest is as it was.
 pub const WORKING_SPACE: usize = 8_192;
 
+/// How many figures `best` writes: the cost, the tries made, and the gap.
+pub const FIGURES: usize = 3;
+
+/// The largest budget that `best` takes.
+pub const MOST_TRIES: u32 = 65_535;
+
 /// The least length of the buffer for the answer to a job sheet: no answer is longer.
 pub const SHEET_ROOM: usize = 4_096;
 
@@ -149,4 +155,40 @@ over_code! {
 
     /// The means that were packed into these k symbols.
     unpack = vakhudle_unpack(symbols: u8; means_out: i16);
+}
+
+/// The cheapest codeword within a budget of 1 to 65,535 tries, and into `figures_out` its cost, the tries made, and the gap.
+///
+/// A codeword costs the total trust of the places where it differs from the n received symbols. k places are picked, of highest trust first and equal
+/// trust by lower place. Tried is the codeword that agrees with the received symbols there, then those with one picked place changed, from the last
+/// picked to the first, then two; the earliest of equally cheap ones is written. The gap is the cost less the least total trust of an untried change of
+/// picked places, and 0 if that is negative or nothing is untried: no codeword is cheaper by more than it. A larger budget never gives a dearer one.
+pub fn best(code: &Code, received: &[u8], trusts: &[u8], budget: u32, symbols_out: &mut [u8], figures_out: &mut [u32], work: &mut [u8]) -> Answer {
+    let Code { field, curve: [g1, g2, g3, g4, g6], xs, ys, k } = *code;
+    answer(unsafe {
+        raw::vakhudle_best(
+            field,
+            g1,
+            g2,
+            g3,
+            g4,
+            g6,
+            xs.as_ptr(),
+            xs.len(),
+            ys.as_ptr(),
+            ys.len(),
+            k,
+            received.as_ptr(),
+            received.len(),
+            trusts.as_ptr(),
+            trusts.len(),
+            budget,
+            symbols_out.as_mut_ptr(),
+            symbols_out.len(),
+            figures_out.as_mut_ptr(),
+            figures_out.len(),
+            work.as_mut_ptr(),
+            work.len(),
+        )
+    })
 }

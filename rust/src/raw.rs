@@ -59,3 +59,30 @@ over_code! {
     vakhudle_rebuild(places: *const u16, symbols: *const u8, symbols_out: *mut u8, work: *mut u8);
     vakhudle_correct(received: *const u8, symbols_out: *mut u8, work: *mut u8);
 }
+
+extern "C" {
+    pub fn vakhudle_best(
+        field: u8,
+        g1: u8,
+        g2: u8,
+        g3: u8,
+        g4: u8,
+        g6: u8,
+        xs: *const u8,
+        xs_len: usize,
+        ys: *const u8,
+        ys_len: usize,
+        k: usize,
+        received: *const u8,
+        received_len: usize,
+        trusts: *const u8,
+        trusts_len: usize,
+        budget: u32,
+        symbols_out: *mut u8,
+        symbols_out_len: usize,
+        figures_out: *mut u32,
+        figures_out_len: usize,
+        work: *mut u8,
+        work_len: usize,
+    ) -> i32;
+}

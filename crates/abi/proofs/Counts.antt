@@ -19,6 +19,7 @@ use Rattle.hours.specs.Means.{meansOutcome}
 use Rattle.rolling.specs.Bytes.{freshOutcome, rollingOutcome}
 use Rattle.coder.specs.Outcomes.{recoverOutcome, systematicFunctionOutcome, systematicWordOutcome, matrixOutcome, relationOutcome, pickOutcome, rebuildOutcome}
 use Rattle.correction.specs.Outcomes.{correctOutcome}
+use Rattle.best.specs.Outcomes.{bestOutcome}
 use Rattle.decoding.specs.Near.{distance, corrected}
 use Rattle.decoding.proofs.Distance.{distance-most}
 use Rattle.blocks.specs.Outcomes.{plainTested, plainOutcome, packTested, packBlockOutcome, unpackTested, unpackBlockOutcome}
@@ -92,3 +93,6 @@ module _ (code : Code) where
       counts-code code _ most
       (λ h. counts-if most _ _ _ (λ e. counts-check most _ _ _ (counts-check most _ _ _ (counts-check most _ _ _ (counts-check most _ _ _
       (counts-counted most (distance (corrected code r) r) _ (omega (arith, h, eqb-true (length r) (n code) e, distance-most (corrected code r) r))))))))
+
+  pub best-counts : (received trusts : List ℕ) (budget : ℕ) (out figures work : List ℕ) → counts (answer (bestOutcome code received trusts budget out figures work)) ≤ most
+  best-counts received trusts budget out figures work = counts-code code _ most (λ h. (counts-check most _ _ _ (counts-check most _ _ _ (counts-check most _ _ _ (counts-check most _ _ _ (counts-check most _ _ _ (counts-check most _ _ _ (counts-check most _ _ _ (counts-accepted most _)))))))))

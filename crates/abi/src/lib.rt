@@ -9,6 +9,7 @@ ghost use Rattle.code.specs.Heard.{heardOutcome};
 ghost use Rattle.blocks.specs.Outcomes.{plainOutcome, packBlockOutcome, unpackBlockOutcome};
 ghost use Rattle.coder.specs.Outcomes.{recoverOutcome, systematicFunctionOutcome, systematicWordOutcome, matrixOutcome, relationOutcome, pickOutcome, rebuildOutcome};
 ghost use Rattle.correction.specs.Outcomes.{correctOutcome};
+ghost use Rattle.best.specs.Outcomes.{bestOutcome};
 ghost use Rattle.hours.specs.Means.{meansOutcome};
 ghost use Rattle.rolling.specs.Bytes.{freshOutcome, rollingOutcome};
 ghost use Rattle.sheet.specs.Job.{sheetOutcome};
@@ -366,4 +367,41 @@ pub extern "C" fn vakhudle_correct(
 {
     let parts = parameters(field, g1, g2, g3, g4, g6, k);
     status(correction::operation::correct(parts, xs, ys, received, out, work))
+}
+
+// Best.
+#[no_mangle]
+pub extern "C" fn vakhudle_best(
+    field: u8,
+    g1: u8,
+    g2: u8,
+    g3: u8,
+    g4: u8,
+    g6: u8,
+    xs: &[u8],
+    ys: &[u8],
+    k: usize,
+    received: &[u8],
+    trusts: &[u8],
+    budget: u32,
+    symbols_out: &mut [u8],
+    figures_out: &mut [u32],
+    work: &mut [u8],
+) -> i32
+    ensures { λ r. ⌜ Reports (bestOutcome (codeFrom field g1 g2 g3 g4 g6 k (now (xs .entry)) (now (ys .entry))) (now (received .entry)) (now (trusts .entry)) budget
+        (now («symbols_out» .entry)) (now («figures_out» .entry)) (now (work .entry))) r
+        (now («symbols_out» .entry), now («figures_out» .entry), now (work .entry)) (now («symbols_out» .exit), now («figures_out» .exit), now (work .exit)) ⌝ }
+{
+    let parts = parameters(field, g1, g2, g3, g4, g6, k);
+    status(best::operation::best(
+        parts,
+        xs,
+        ys,
+        received,
+        trusts,
+        budget,
+        symbols_out,
+        figures_out,
+        work,
+    ))
 }

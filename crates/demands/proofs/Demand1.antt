@@ -40,11 +40,15 @@ use Rattle.rolling.proofs.InBytes.{length-state, fresh-length, advanced-length}
 use Rattle.solving.specs.Tests.{Lent, room, cleared}
 use Rattle.coder.specs.Outcomes.{joined}
 use Rattle.decoding.specs.Near.{correctable, corrected}
+use Rattle.patterns.specs.Best.{best}
+use Rattle.patterns.proofs.Promises.{promises}
+use Rattle.best.specs.Outcomes.{Lent as BestLent}
 use Rattle.text.specs.Reading.{Sheet}
 use Rattle.sheet.specs.Job.{codeFor, jobOutcome, answerTo, sheetOutcome, room as sheetRoom, Answers as AnswersSheet}
-use Rattle.demands.specs.Call.{Call, Of}
+use Rattle.demands.specs.Call.{Call, call, Of}
+use Rattle.demands.specs.Best.{BestCall, OfBest}
 use Rattle.demands.specs.Order.{Test, first, numbers, codeTests, pointsTests, freshTests, rollingTests, heardTests, jobTests, sheetTests}
-use Rattle.demands.specs.Demand1.{Answers, Filled, Listed, Worked, PointsAnswers, RollingAnswers, Works, Demand1}
+use Rattle.demands.specs.Demand1.{Answers, Filled, Listed, Worked, PointsAnswers, RollingAnswers, BestAnswers, Works, Demand1}
 use Rattle.demands.proofs.Passing.{accepted-on, counted-on}
 use Rattle.demands.proofs.Ones.{one-word, is-recovered, the-in, in-codeword, agreed-some, codeword-length, the-function, the-within}
 use Rattle.demands.proofs.Rows.{joined-length, row-lengths, row-count}
@@ -209,6 +213,19 @@ working : (code : Code) (ns : List ℕ) (ts : List Test) (l : List ℕ) (c : Cal
 working code ns ts l c e w =
     code-answers code ns ts (accepted (l, cleared (c .work))) e (accepts-accepted {M = Lent} _) (λ done held m. let (size, space) = w done held in worked c size space (accepted-on m))
 
+-- ---- Best
+
+best-call : (code : Code) (received trusts : List ℕ) (budget : ℕ) (c : BestCall) → OfBest code received trusts budget c → BestAnswers code received trusts budget c
+best-call code received trusts budget c =
+    code-answers code _ _ _ refl (accepts-accepted {M = BestLent} _)
+    (λ done (a, (t, (b, (f, (r, (s, _)))))) m.
+    let (d, new) = accepted-on m in
+    let is = promises code done received trusts s (eqb-true _ _ a) (eqb-true _ _ t) .best-codeword budget in
+    let size = codeword-length code done (best code received trusts budget) is ∙ sym (eqb-true _ _ b) in (
+      worked (call (c .answer) (c .out) (c .work) (c .out-after) (c .work-after)) size (leb-true _ _ r) (d, ap (λ (m : BestLent). (m .0, m .2)) new),
+      record { done = d; written = ap (λ (m : BestLent). m .1) new; whole = sym (eqb-true _ _ f) },
+    ))
+
 -- THEOREM
 pub demand1 : Demand1
 demand1 =
@@ -250,6 +267,7 @@ demand1 =
       correct = λ code w c.
           code-answers code _ _ _ refl (accepts-counted {M = Lent} _ _)
           (λ done (a, (b, (r, (s, (t, _))))) m. worked c (corrected-length code done w t ∙ sym (eqb-true _ _ b)) (leb-true _ _ r) (counted-on m));
+      best = best-call;
       job = λ job. (refl, job-first job);
       sheet = sheet-call;
     }

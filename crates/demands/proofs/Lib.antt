@@ -16,6 +16,7 @@ pub mod Demand2
 pub mod Demand3
 pub mod BestPick
 pub mod Correction
+pub mod Best
 pub mod Day
 pub mod Starred
 pub mod Exports

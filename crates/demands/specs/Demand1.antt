@@ -29,11 +29,14 @@ use Rattle.coder.specs.Outcomes.{joined}
 use Rattle.coder.specs.Outcomes.{recoverOutcome, systematicFunctionOutcome, systematicWordOutcome, matrixOutcome, relationOutcome, pickOutcome, rebuildOutcome}
 use Rattle.decoding.specs.Near.{distance, corrected}
 use Rattle.correction.specs.Outcomes.{correctOutcome}
+use Rattle.patterns.specs.Best.{best}
+use Rattle.best.specs.Outcomes.{Lent as BestLent, figuresOf}
 use Rattle.text.specs.Reading.{Sheet}
 use Rattle.sheet.specs.Job.{codeFor, jobOutcome, answerTo, Answers as AnswersSheet}
-use Rattle.demands.specs.Call.{Call, Of}
+use Rattle.demands.specs.Call.{Call, call, Of}
+use Rattle.demands.specs.Best.{BestCall, OfBest, before, after}
 use Rattle.demands.specs.Order.{Test, first, numbers, pointsTests, meansTests, freshTests, rollingTests, plainTests, packTests, unpackTests, heardTests}
-use Rattle.demands.specs.Order.{recoverTests, systematicTests, matrixTests, relationTests, pickTests, rebuildTests, correctTests, jobTests, sheetTests}
+use Rattle.demands.specs.Order.{recoverTests, systematicTests, matrixTests, relationTests, pickTests, rebuildTests, correctTests, bestTests, jobTests, sheetTests}
 
 -- the answer r, with lent memory from old to new, of a call that has the tests ts, whose numbers are ns
 pub record Answers {M : Type 0} (ns : List ℕ) (ts : List Test) (r : Answer) (old new : M) (whole : Type 0) : Type 0 where
@@ -88,6 +91,14 @@ RollingAnswers state hour mean out r state′ out′ =
     Answers {M = List ℕ × List ℤ} (8 ∷ 8 ∷ 16 ∷ 22 ∷ 22 ∷ []) (rollingTests state hour mean out) r (state, out) (state′, out′)
     (Filled Done (stateBytes new) r state state′ × Filled Done (figure (new .codes) ∷ []) r out out′)
 
+-- Best: the word and the figures are written whole, and the working space is cleared
+abbrev pub BestAnswers : Code → List ℕ → List ℕ → ℕ → BestCall → Type 0
+BestAnswers code received trusts budget c =
+    Answers {M = BestLent} (codeNumbers ++ 8 ∷ 8 ∷ 8 ∷ 8 ∷ 8 ∷ 11 ∷ 23 ∷ []) (bestTests code received trusts budget (c .out) (c .figures) (c .work))
+    (c .answer) (before c) (after c)
+    (Worked Done (best code received trusts budget) (call (c .answer) (c .out) (c .work) (c .out-after) (c .work-after))
+    × Filled Done (figuresOf code received trusts budget) (c .answer) (c .figures) (c .figures-after))
+
 pub record Demand1 : Type 0 where
   pub points : (m : ℕ) (C : Curve) (r : Answer) (xs ys xs′ ys′ : List ℕ) → Meets (pointsOutcome m C xs ys) r (xs, ys) (xs′, ys′)
       → PointsAnswers m C r xs ys xs′ ys′
@@ -125,6 +136,8 @@ pub record Demand1 : Type 0 where
   -- Correct, with "the count of places changed"
   pub correct : (code : Code) (w : List ℕ) (c : Call) → Of (correctOutcome code w) c
       → WorksWith (Counted (distance (corrected code w) w)) (codeNumbers ++ 8 ∷ 8 ∷ 8 ∷ 11 ∷ 21 ∷ []) (correctTests code w (c .out) (c .work)) (corrected code w) c
+  -- Best, which is lent the three figures too
+  pub best : (code : Code) (received trusts : List ℕ) (budget : ℕ) (c : BestCall) → OfBest code received trusts budget c → BestAnswers code received trusts budget c
   -- the job sheet: its answer's number, and the text in the lent buffer
   pub job : (job : Sheet) → let ts = jobTests (codeFor (job .head)) (job .places) (job .message) in
       (numbers ts ≡ codeNumbers ++ 8 ∷ 8 ∷ 9 ∷ 10 ∷ 11 ∷ 12 ∷ []) × (answer (jobOutcome job) ≡ first ts)

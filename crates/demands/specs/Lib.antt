@@ -8,6 +8,7 @@ pub mod Demand3
 pub mod Ranking
 pub mod BestPick
 pub mod Correction
+pub mod Best
 pub mod Hours
 pub mod Rolling
 pub mod Masks

@@ -8,7 +8,7 @@ use lib.ListN.{length}
 use Rattle.basics.specs.declared.Refusal.{Refusal}
 use Rattle.basics.specs.declared.Refusal.the-variants.{FieldNumber, CurveCoefficient, Singular, PointCount, OffCurve, RepeatedPoint, Dimension}
 use Rattle.basics.specs.declared.Refusal.the-variants.{Length, Place, RepeatedPlace, Symbol, Dependent, TooFew, NoCodeword, Independent}
-use Rattle.basics.specs.declared.Refusal.the-variants.{Reading, NeverPacked, StampOrder, Hour, TooFar, NoRun}
+use Rattle.basics.specs.declared.Refusal.the-variants.{Reading, NeverPacked, StampOrder, Hour, TooFar, NoRun, Budget}
 use Rattle.basics.specs.declared.Answer.{Answer}
 use Rattle.basics.specs.declared.Answer.the-variants.{Done, Refused}
 use Rattle.basics.specs.Bits.{isWord}
@@ -29,6 +29,7 @@ use Rattle.rolling.specs.Bytes.{stateFrom}
 use Rattle.sheet.specs.Job.{room as sheetRoom}
 use Rattle.solving.specs.Tests.{room}
 use Rattle.decoding.specs.Near.{correctable}
+use Rattle.best.specs.Outcomes.{isBudget}
 
 pub record Test : Type 0 where
   pub holds : Bool
@@ -136,6 +137,12 @@ module _ (code : Code) where
   -- Correct: "21, after code, 8 and 11"
   abbrev pub correctTests : List ℕ → List ℕ → List ℕ → List Test
   correctTests r out work = codeTests ++ lengthTest r (n code) ∷ lentTests (n code) out work ++ symbolTest r ∷ test (correctable code r) TooFar ∷ []
+
+  -- Best: "23, after code, 8 and 11"
+  abbrev pub bestTests : List ℕ → List ℕ → ℕ → List ℕ → List ℕ → List ℕ → List Test
+  bestTests received trusts budget out figures work =
+      codeTests ++ lengthTest received (n code) ∷ lengthTest trusts (n code) ∷ lengthTest out (n code) ∷ lentTests 3 figures work
+      ++ symbolTest received ∷ test (isBudget budget) Budget ∷ []
 
   -- the job of a sheet: Systematic function and Systematic word in one, without lent lists
   abbrev pub jobTests : List ℕ → List ℕ → List Test

@@ -131,6 +131,29 @@ pub fn wrong_word(kind: &Kind, code: &OwnCode, errors: usize, random: &mut Rando
     word
 }
 
+/// A word with so many symbols changed, and the trusts of all. A wrong symbol has a trust of 0 to 127, a right one of 128 to 255, or once in four times any;
+/// or all have any.
+pub fn trusted_word(kind: &Kind, code: &OwnCode, errors: usize, any: bool, random: &mut Random) -> (Vec<u8>, Vec<u8>) {
+    let mut received = word(kind, code, random);
+    let mut indices: Vec<usize> = (0..kind.n).collect();
+    random.shuffle(&mut indices);
+    let mut trusts = vec![0; kind.n];
+    for (count, i) in indices.into_iter().enumerate() {
+        let wrong = count < errors;
+        let (least, most) = match wrong {
+            _ if any => (0, 255),
+            true => (0, 127),
+            false if random.once_in(4) => (0, 255),
+            false => (128, 255),
+        };
+        trusts[i] = random.between(least, most) as u8;
+        if wrong {
+            received[i] ^= random.between(1, size(kind.field) as i64 - 1) as u8;
+        }
+    }
+    (received, trusts)
+}
+
 /// Places that are heard, and the symbols of a word there.
 pub fn heard_word(kind: &Kind, code: &OwnCode, random: &mut Random) -> (Vec<u16>, Vec<u8>) {
     let heard = heard(kind, random);

@@ -12,7 +12,7 @@ mod timing;
 use inputs::{Kind, OwnCode};
 use timing::{Bench, Row};
 use vakhudle::plain::{fast, Random};
-use vakhudle::{Answer, Code, MOST_POINTS, ROLLING_STATE, WORKING_SPACE};
+use vakhudle::{Answer, Code, FIGURES, MOST_POINTS, MOST_TRIES, ROLLING_STATE, WORKING_SPACE};
 
 fn products(bench: &Bench, field: u8, inputs: usize) {
     let n = 4096;
@@ -150,6 +150,36 @@ fn correct(bench: &Bench, kind: Kind, bar: Option<f64>) {
     );
 }
 
+type Best = fn(&Code, &[u8], &[u8], u32, &mut [u8], &mut [u32], &mut [u8]) -> Answer;
+
+/// With six wrong symbols, which are trusted less than most others, or with trusts that say nothing, beside tries over the rows of the matrix, which one
+/// elimination makes. Both sides pass by what cannot be cheaper.
+fn best(bench: &Bench, kind: Kind, budget: u32, any_trusts: bool, bar: Option<f64>) {
+    const ERRORS: usize = 6;
+    let run = |best: Best| {
+        let mut work = vec![0; WORKING_SPACE];
+        // the figures behind the word
+        move |((received, trusts), code): &((Vec<u8>, Vec<u8>), OwnCode), out: &mut [u8]| {
+            let (symbols, rest) = out.split_at_mut(received.len());
+            let mut figures = [0; FIGURES];
+            let answer = best(&code.code(), received, trusts, budget, symbols, &mut figures, &mut work);
+            rest.chunks_exact_mut(4).zip(figures).for_each(|(bytes, figure)| bytes.copy_from_slice(&figure.to_le_bytes()));
+            answer
+        }
+    };
+    let trusts = if any_trusts { ", any trusts" } else { "" };
+    bench.compare(
+        Row::new(format!("{}, {ERRORS} errors, budget {budget}{trusts}", kind.named("best")), kind.inputs).bar(bar),
+        kind.n + 4 * FIGURES,
+        |random| {
+            let code = inputs::code(&kind, random);
+            (inputs::trusted_word(&kind, &code, ERRORS, any_trusts, random), code)
+        },
+        run(vakhudle::best),
+        run(fast::best),
+    );
+}
+
 /// Beside one elimination of the k by n generator matrix. Answers our time for a symbol.
 fn matrix(bench: &Bench, kind: Kind, bar: Option<f64>) -> Option<f64> {
     let (mut work, mut work_too) = (vec![0; WORKING_SPACE], vec![0; WORKING_SPACE]);
@@ -227,6 +257,11 @@ fn main() {
     places(&bench, large, 20.0, 50.0);
     correct(&bench, small, Some(8.0));
     correct(&bench, large, None);
+    for budget in [1, 3_781, MOST_TRIES] {
+        best(&bench, small, budget, false, Some(1.0));
+    }
+    best(&bench, small, MOST_TRIES, true, Some(1.0));
+    best(&bench, large, MOST_TRIES, false, None);
     matrix(&bench, small, Some(8.0));
     let grows: Vec<_> = [50, 100, 200].map(|k| (k, matrix(&bench, Kind { k, ..large }, (k == 200).then_some(15.0)))).into();
     bench.empty();

@@ -100,7 +100,7 @@ pub fn systematic_word(code: &Code, places: &[u16], message: &[u8], symbols_out:
 }
 
 /// The generator matrix: a row for each monomial, a column for each of these places.
-fn generator(field: &Field, code: &Code, places: &[u16]) -> Vec<u8> {
+pub(super) fn generator(field: &Field, code: &Code, places: &[u16]) -> Vec<u8> {
     let n = places.len();
     let mut rows = vec![1; code.k * n];
     for j in 1..code.k {
@@ -118,7 +118,7 @@ fn generator(field: &Field, code: &Code, places: &[u16]) -> Vec<u8> {
 
 /// Makes the first k columns of k rows of n those of the unit matrix; answers whether that can be done. What is past them is all that it leaves
 /// right, so that the way back from the last row up is through fewer columns.
-fn eliminate(field: &Field, rows: &mut [u8], n: usize, k: usize) -> bool {
+pub(super) fn eliminate(field: &Field, rows: &mut [u8], n: usize, k: usize) -> bool {
     let mut logs = [LOG_OF_ZERO; MOST_POINTS];
     for i in 0..k {
         let Some(found) = (i..k).find(|&j| rows[j * n + i] != 0) else {

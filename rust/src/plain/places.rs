@@ -119,7 +119,7 @@ fn check_places(code: &Code, places: &[u16]) -> Result<(), u8> {
 }
 
 /// The test 11.
-fn check_symbols(code: &Code, symbols: &[u8]) -> Result<(), u8> {
+pub(super) fn check_symbols(code: &Code, symbols: &[u8]) -> Result<(), u8> {
     if symbols.iter().any(|&s| s as usize >= size(code.field)) {
         return Err(11);
     }
@@ -127,7 +127,7 @@ fn check_symbols(code: &Code, symbols: &[u8]) -> Result<(), u8> {
 }
 
 /// Writes what is accepted.
-fn accept<T: Copy>(result: &[T], out: &mut [T], work: &mut [u8]) -> Answer {
+pub(super) fn accept<T: Copy>(result: &[T], out: &mut [T], work: &mut [u8]) -> Answer {
     out.copy_from_slice(result);
     work[..WORKING_SPACE].fill(0);
     Ok(0)

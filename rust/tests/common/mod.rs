@@ -38,6 +38,12 @@ impl Filler for u16 {
     }
 }
 
+impl Filler for u32 {
+    fn from_bits(bits: u64) -> Self {
+        bits as u32
+    }
+}
+
 impl Filler for i16 {
     fn from_bits(bits: u64) -> Self {
         bits as i16
@@ -88,9 +94,26 @@ impl<T: Filler> Lent<T> {
         self.all == other.all
     }
 
-    fn border_is_unchanged(&self) -> bool {
+    pub fn border_is_unchanged(&self) -> bool {
         let end = self.all.len() - BORDER;
         self.all[..BORDER] == self.before[..BORDER] && self.all[end..] == self.before[end..]
+    }
+}
+
+impl Lent<u8> {
+    /// A working space: mostly nowhere zero, so that a byte left as it was shows.
+    pub fn work(length: usize, random: &mut Random) -> Self {
+        if random.once_in(4) {
+            Lent::new(length, random)
+        } else {
+            Lent::filled(length, random.between(1, 255) as u8)
+        }
+    }
+
+    /// Whether its first bytes are zero, as they are after acceptance, and the rest as it was.
+    pub fn is_cleared(&self) -> bool {
+        let (zeros, rest) = self.all[BORDER..].split_at(WORKING_SPACE);
+        zeros.iter().all(|&b| b == 0) && rest == &self.before[BORDER + WORKING_SPACE..]
     }
 }
 
@@ -147,14 +170,9 @@ pub fn agree_with_work<T: Filler, I>(
     implementations: &[I],
     run: impl Fn(&I, &mut [T], &mut [u8]) -> Answer,
 ) -> (Answer, Lent<T>) {
-    let out = Lent::new(lengths[0], random);
-    // mostly nowhere zero, so that a byte left as it was shows
-    let work = if random.once_in(4) { Lent::new(lengths[1], random) } else { Lent::filled(lengths[1], random.between(1, 255) as u8) };
+    let (out, work) = (Lent::new(lengths[0], random), Lent::work(lengths[1], random));
     let (answer, out, work) = agree_on_two(out, work, implementations, run);
-    if answer.is_ok() {
-        let (zeros, rest) = work.all[BORDER..].split_at(WORKING_SPACE);
-        assert!(zeros.iter().all(|&b| b == 0) && rest == &work.before[BORDER + WORKING_SPACE..], "the working space");
-    }
+    assert!(answer.is_err() || work.is_cleared(), "the working space");
     (answer, out)
 }
 

@@ -1,0 +1,4 @@
+-- What Best answers, and its stages.
+pub mod Outcomes
+pub mod Stages
+pub mod Given
