@@ -21,11 +21,8 @@ use Rattle.patterns.proofs.Ranking.{ranking-places, ranking-length, unique-rank
 use Rattle.patterns.proofs.Tried.{tries}
 use Rattle.patterns.proofs.Computed.{computed}
 use Rattle.patterns.proofs.Words.{k-places}
-use Rattle.arrangement.specs.Arranged.{Places}
-use Rattle.solving.proofs.Arranged.{places-in}
 use Rattle.picked_rows.specs.Stored as stored
 use Rattle.picked_rows.proofs.Stored.{drop-to}
-use Rattle.picked_rows.proofs.Difference.{given-works}
 use Rattle.best.specs.Given.{Given}
 use Rattle.best.specs.Outcomes.{figuresOf}
 
@@ -61,10 +58,6 @@ module _ {code : Code} {received trusts ranked : List ℕ} (g : Given code recei
   pub ranked-given : {J : List ℕ} → J ≡ pick code ranked → stored.Given code received trusts J
   unfolding picked
   ranked-given e = record { done = g .done; small = g .small; size = g .size; trusted = g .trusted; is-picked = e ∙ ap (pick code) is-ranking }
-
--- the places that have been picked are places
-pub picked-places : {code : Code} {received trusts J : List ℕ} → stored.Given code received trusts J → Places (length trusts) J
-picked-places g = rw (g .trusted) (places-in (given-works g .placed))
 
 -- ---- the working space
 

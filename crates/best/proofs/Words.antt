@@ -2,7 +2,6 @@
 use Prim.Native.Nat.{ℕ, _+_, _*_, _-_, _<_, _≤_}
 use mathlib.Core.Path.{_≡_, sym, _∙_, ap, ap₂}
 use mathlib.Core.List.{List, _++_, append-nil}
-use native.Mathlib.Omega.{arith}
 use lib.Bits.{bitXor}
 use lib.ListN.{length, take, drop, getD, set, drop-of-length-le}
 use lib.Seq.{take-all}
@@ -25,6 +24,7 @@ use Rattle.picked_rows.specs.Stored.{Given, Prepared}
 use Rattle.search.specs.declared.block.Found.{Found}
 use Rattle.search.specs.Found.{changeOf}
 use Rattle.search.specs.Search.{IsTry, Finds}
+use Rattle.search.proofs.Settings.{base-part}
 
 -- what is written, to i, and what is left
 abbrev pub applied : ℕ → List ℕ → List ℕ → List ℕ → List ℕ
@@ -58,8 +58,7 @@ module _ {code : Code} {received trusts J work : List ℕ} (p : Prepared code re
   -- the difference brings the word back
   base-word : {out : List ℕ} → out ≡ changed received (take (6 * n code + n code - 6 * n code) (drop (6 * n code) work)) → out ≡ word (none (code .k))
   base-word e =
-      let long : 6 * n code + n code - 6 * n code ≡ n code = omega arith in
-      e ∙ ap (λ m. changed received (take m (drop (6 * n code) work))) long ∙ ap (changed received) (p .base)
+      e ∙ ap (changed received) (base-part (n code) work ∙ p .base)
       ∙ changed-twice received (word (none (code .k)))
       (given .size
       ∙ sym (codeword-length code (given .done) trusts (word (none (code .k))) (word-codeword code (given .done) received trusts (given .small) (given .size) none-small)))

@@ -1,6 +1,6 @@
 -- The first try changes nothing, so that it is a try at its cost, and what is found after it among the singles and the pairs is the best of all that are tried.
 use Prim.Native.Nat.{ℕ, zero, suc, _*_, _-_, _<_, _≤_}
-use mathlib.Core.Path.{_≡_, refl, sym, _∙_, ap}
+use mathlib.Core.Path.{_≡_, sym, _∙_, ap}
 use mathlib.Core.List.{List, _++_}
 use native.Mathlib.Omega.{arith}
 use native.Mathlib.Nat.{le-refl, mul-le-mul}
@@ -14,6 +14,7 @@ use Rattle.patterns.specs.Best.{tried, wordOf}
 use Rattle.patterns.proofs.Patterns.{none-listed, length-singles}
 use Rattle.patterns.proofs.Runs.{keeps}
 use Rattle.patterns.proofs.Slots.{cost-difference}
+use Rattle.patterns.proofs.Weights.{none-at}
 use Rattle.patterns.proofs.Words.{word-codeword, codeword-length}
 use Rattle.picked_rows.specs.Stored.{array, Prepared}
 use Rattle.search.specs.declared.block.Found.{Found}
@@ -23,12 +24,6 @@ use Rattle.search.specs.Search.{price, IsTry, Runs, Finds}
 use Rattle.search.proofs.Running.{runs-then}
 
 -- ---- no change
-
-none-at : (k i : ℕ) → getD (none k) i 0 ≡ 0
-none-at zero zero = refl
-none-at zero (suc i) = refl
-none-at (suc k) zero = refl
-none-at (suc k) (suc i) = none-at k i
 
 change-start : (k c : ℕ) → changeOf k (start c) ≡ none k
 change-start k c = ap (λ l. set l 0 0) (set-none k 0) ∙ set-none k 0
@@ -60,7 +55,7 @@ module _ {code : Code} {received trusts J work : List ℕ} (p : Prepared code re
         early-in = places;
         d-lt = some;
         e-lt = some;
-        apart = ap (λ l. getD l 0 0) (set-none (code .k) 0) ∙ none-at (code .k) 0;
+        apart = ap (λ l. getD l 0 0) (set-none (code .k) 0) ∙ none-at (code .k) 0 places;
       }
 
 -- ---- all tries

@@ -1,10 +1,10 @@
--- Two places changed: a pair whose places have enough trust needs no try, and loops over amounts and over places go on with what is left of the tries.
+-- Two places changed: the loops over amounts and over places go on with what is left of the tries.
 use Prim.Native.Nat.{ℕ, suc, _+_, _*_, _-_, _<_, _≤_, min}
 use mathlib.Core.Path.{_≡_, sym, _∙_, ap, subst}
 use mathlib.Core.List.{List, _∷_}
 use native.Mathlib.Omega.{arith}
 use native.Mathlib.Nat.{mul-le-mul}
-use lib.ListN.{length, set, drop, length-map, drop-of-length-le}
+use lib.ListN.{length, set, drop, drop-of-length-le}
 use Rattle.basics.proofs.Lists.{getD-table}
 use Rattle.basics.proofs.Loops.{next}
 use Rattle.field.specs.Galois.{galois, size}
@@ -21,6 +21,7 @@ use Rattle.search.specs.declared.block.Found.{Found}
 use Rattle.search.specs.Found.{improved}
 use Rattle.search.specs.Search.{values, IsTry, Moved, RunsPair}
 use Rattle.search.proofs.Running.{Going, going-start, going-turn, going-end}
+use Rattle.search.proofs.Loops.{length-values}
 use Rattle.search.proofs.Blocks.{runs-block}
 
 -- ---- the loop over the amounts at the later place
@@ -64,7 +65,7 @@ module _ {m : ℕ} {trusts difference lateRow earlyRow : List ℕ} {late early :
       let inside : d < q code = subst (λ m. d < size m) (sym (p .field)) most in
       let here = go code received J p in
       rw el
-      (going-turn (length-map (amounts (q code)) (λ e. set (set (none (code .k)) late d) early e) ∙ length-amounts (q code) ∙ ap (λ m. size m - 1) (p .field))
+      (going-turn (length-values (q code) (set (none (code .k)) late d) early ∙ ap (λ m. size m - 1) (p .field))
       (runs-block (p .moved .given) (p .moved .is) late early d (p .later) (p .earlier) (p .late-lt) (omega (arith, p .late-lt, p .early-lt)) inside
       (other-zero (none (code .k)) late early d (λ z. omega (arith, z, p .early-lt)) (none-at (code .k) early (omega (arith, p .late-lt, p .early-lt))))
       rest (here .is-try) (rw (p .field) e))

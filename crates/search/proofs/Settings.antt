@@ -1,7 +1,7 @@
 -- What the working space holds is what a block of tries needs: the difference of the codeword that changes nothing, places that have a trust, and rows of
 -- symbols. Changes that cost as much by their own places as the best so far need no try.
 use Prim.Native.Nat.{ℕ, _+_, _*_, _-_, _<_, _≤_}
-use mathlib.Core.Path.{_≡_, sym, _∙_, ap, subst}
+use mathlib.Core.Path.{_≡_, refl, sym, _∙_, ap, subst}
 use mathlib.Core.Bool.{true}
 use mathlib.Core.List.{List, map, List·Memᴰ as In}
 use native.Mathlib.Omega.{arith}
@@ -12,16 +12,19 @@ use Rattle.codewords.specs.Codewords.{index, row, codeword}
 use Rattle.codewords.proofs.Accepted.{Accepted, accepted-done, laws}
 use Rattle.codewords.proofs.Places.{all-at, true-message, symbols-true}
 use Rattle.arrangement.specs.Arranged as arranged
+use Rattle.solving.proofs.Arranged.{places-in}
 use Rattle.matrix.specs.Given.{part}
 use Rattle.patterns.specs.Patterns.{amounts, none, pair}
 use Rattle.patterns.specs.Best.{entries, changed, wordOf}
 use Rattle.patterns.proofs.Each.{all-each, all-mapped, amounts-in}
 use Rattle.patterns.proofs.Patterns.{none-listed, set-listed}
 use Rattle.patterns.proofs.Changes.{changed-length, changed-below}
-use Rattle.patterns.proofs.Words.{are-places, k-places, codeword-symbols, codeword-length, word-codeword}
+use Rattle.patterns.proofs.Words.{codeword-symbols, codeword-length, word-codeword}
 use Rattle.patterns.proofs.Linear.{row-codeword}
 use Rattle.patterns.proofs.Computed.{computed}
 use Rattle.picked_rows.specs.Stored.{Given}
+use Rattle.picked_rows.proofs.Rows.{lent-array}
+use Rattle.picked_rows.proofs.Difference.{given-works}
 use Rattle.tries.specs.Multiples.{Rows}
 use Rattle.search.specs.declared.block.Found.{Found}
 use Rattle.search.specs.Search.{values, price, IsTry, Runs}
@@ -29,7 +32,7 @@ use Rattle.search.proofs.Running.{runs-past}
 
 -- the seventh array of n bytes
 pub base-part : (n : ℕ) (work : List ℕ) → take (6 * n + n - 6 * n) (drop (6 * n) work) ≡ part n 6 work
-base-part n work = let e : 6 * n + n - 6 * n ≡ n = omega arith in ap (λ m. take m (drop (6 * n) work)) e
+base-part n work = lent-array n 6 (6 * n) (6 * n + n) work refl refl
 
 -- ---- the picked places
 
@@ -38,12 +41,10 @@ module _ {code : Code} {received trusts J : List ℕ} (given : Given code receiv
   accepted = accepted-done code (given .done)
 
   pub places-many : length J ≡ code .k
-  places-many = ap length (given .is-picked) ∙ k-places code (given .done) trusts
+  places-many = given-works given .full
 
   pub trust-places : arranged.Places (length trusts) J
-  trust-places j h =
-      let w = all-at 0 (subst (λ J. All (λ p. (1 ≤ p) × (p ≤ n code)) J) (sym (given .is-picked)) (are-places code (given .done) trusts .spots)) j h in
-      (w .0, omega (arith, w .1, given .trusted))
+  trust-places = rw (given .trusted) (places-in (given-works given .placed))
 
   -- ---- the lists that a pass goes over
 

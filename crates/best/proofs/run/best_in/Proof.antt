@@ -6,7 +6,8 @@ use lib.ListN.{length, take}
 use lib.Seq.{length-take-le}
 use Rattle.codewords.specs.Code.{codeOf}
 use Rattle.codewords.proofs.Accepted.{accepted-done}
-use Rattle.best.proofs.Beginning.{picked-places, cleared-same, figures-by}
+use Rattle.search.proofs.Settings.{trust-places}
+use Rattle.best.proofs.Beginning.{cleared-same, figures-by}
 use borrow.Author.Needs.{needs}
 use Rattle.best.proofs.run.best_in.Statement.{statement}
 use Rattle.best.proofs.run.best_in.Tie as tie
@@ -69,7 +70,7 @@ write-figures-requires c κs =
     let s = entry r in
     let pre = s .pre .1 in
     let a = accepted-done _ (pre .0 .done) in
-    (s .pre .0 .field, picked-places (r .begin-best .ensures .0 .given), omega (arith, part r .1, a .k-most, a .n-most), pre .5, pre .6, pre .3)
+    (s .pre .0 .field, trust-places (r .begin-best .ensures .0 .given), omega (arith, part r .1, a .k-most, a .n-most), pre .5, pre .6, pre .3)
 
 clear-room-requires : tie.Need-clear-room-requires
 clear-room-requires c κs = let r = begun (found (after-write c)) in omega (arith, r .begin-best .kept .1 .1 .1 .1 .1 .1 .1 .1 .1 .0, entry r .pre .1 .4)
