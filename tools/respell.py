@@ -147,6 +147,26 @@ def turn(text, new, fields, dotted=True):
     return "".join(out)
 
 
+USE = re.compile(r"^(?:pub |ghost )*use ([^\s;{]+)\.\{([^}]*)\}", re.M)
+
+
+def of_the_library(text):
+    """What a file imports from modules that are not this repository's: those names keep their spelling there."""
+    crates = {p.split("/")[1] for p in glob.glob("crates/*/src")}
+    found = set()
+    for m in USE.finditer(text):
+        parts = m.group(1).split(".")
+        if parts[0] == "Rattle" and len(parts) > 1 and parts[1] in crates:
+            continue
+        found |= {w.strip().split(" as ")[0] for w in m.group(2).split(",")}
+    return found
+
+
+def without(new, text):
+    found = of_the_library(text)
+    return {k: v for k, v in new.items() if k not in found}
+
+
 GHOST = re.compile(r"ghost use [^;]*;|(?:requires|ensures|ghost)\*?(?: \w+:?)? \{")
 
 
@@ -200,12 +220,12 @@ def main():
         return 0
     for path in sources():
         text = open(path, encoding="utf-8").read()
-        turned = turn(text, new, fields)
+        turned = turn(text, without(new, text), fields)
         if turned != text:
             open(path, "w", encoding="utf-8").write(turned)
     for path in sorted(glob.glob("crates/*/src/**/*.rt", recursive=True)):
         text = open(path, encoding="utf-8").read()
-        turned = turn_rt(text, new, fields)
+        turned = turn_rt(text, without(new, text), fields)
         if turned != text:
             open(path, "w", encoding="utf-8").write(turned)
     for path in sorted(glob.glob("crates/*/must-fail/*.edit")):

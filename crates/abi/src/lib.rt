@@ -1,5 +1,7 @@
 // The C interface: plain numbers and slices in, one signed number out, which is 0 or a count where the call is accepted and minus the number
 // of documents 01 and 02 where it is refused. A slice is a pointer and a length. Each export calls the operation of the same name.
+#![tactic(auto)]
+
 ghost use Rattle.std.specs.Prelude.{◌≡◌, length};
 ghost use Rattle.basics.specs.Outcome.{Reports};
 ghost use Rattle.field.specs.Products.{products_outcome};

@@ -118,5 +118,5 @@ module _ {A : Type 0} where
   pub appended_all : {l old out : List A} {n : ℕ} (m : List A) → n + length m ≤ length old → Appended l old out n → Appended (l ++ m) old (sets out n m) (n + length m)
   appended_all {l} {old} {out} {n} [] h a = rw add-zero (appended_as (sym (append-nil l)) a)
   appended_all {l} {old} {out} {n} (v ∷ m) h a =
-      let turn = appended_all m (omega arith) (rw add-one at (appended_one v (omega arith) a)) in
+      let turn = appended_all {l = l ++ (v ∷ [])} m (omega arith) (rw add-one at (appended_one v (omega arith) a)) in
       rw add-suc (rw suc-add at (appended_as (append_snoc l v m) turn))

@@ -1,4 +1,6 @@
 // What every operation answers, and the two numberings that may not be taken for one another.
+#![tactic(auto)]
+
 pub mod byte;
 pub mod short;
 
@@ -6,7 +8,7 @@ ghost use Rattle.std.specs.Prelude.{◌≡◌, ◌≤◌};
 ghost use Rattle.basics.specs.Outcome.{number, counts, status};
 
 // Why an operation refuses: one case for each number of documents 01 and 02.
-#[derive(Drop)]
+#[derive(Clone, Copy)]
 pub enum Refusal {
     FieldNumber,
     CurveCoefficient,
@@ -34,7 +36,7 @@ pub enum Refusal {
 }
 
 // Accepted, with a count where the operation has one, or refused.
-#[derive(Drop)]
+#[derive(Clone, Copy)]
 pub enum Answer {
     Done,
     Counted(usize),
@@ -42,11 +44,11 @@ pub enum Answer {
 }
 
 // A place of a codeword: 1 to n.
-#[derive(Drop)]
+#[derive(Clone, Copy)]
 pub struct Place(pub u16);
 
 // An index into a message: the symbol at index i belongs to the i-th chosen place.
-#[derive(Drop)]
+#[derive(Clone, Copy)]
 pub struct MessageIndex(pub usize);
 
 // The number that documents 01 and 02 give a refusal.

@@ -1,4 +1,6 @@
 // Best: the cheapest codeword of so many tries.
+#![tactic(auto)]
+
 pub mod figures;
 pub mod operation;
 pub mod run;

@@ -1,4 +1,6 @@
 // Bit sets, 64 bits at a time: eight bytes as one number, and the places of its set bits.
+#![tactic(auto)]
+
 ghost use Rattle.std.specs.Prelude.{◌≡◌, ◌+◌, ◌≤◌, length, take, drop};
 ghost use Rattle.std.specs.Int.Count.{ones};
 ghost use Rattle.std.proofs.lemmas.List.Edits.{sets};

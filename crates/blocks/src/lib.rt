@@ -1,3 +1,5 @@
 // The operations on one block that need no interpolation.
+#![tactic(auto)]
+
 pub mod packing;
 pub mod plain;

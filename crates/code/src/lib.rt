@@ -1,4 +1,6 @@
 // The code test, and the operations that rest on it alone.
+#![tactic(auto)]
+
 pub mod heard;
 pub mod lists;
 pub mod test;

@@ -15,7 +15,7 @@ use elliptic::{Curve, Point};
 use field::{is_field, logarithms, powers, size};
 
 // What one pass over the points finds: all are points of the curve; no slot is met twice.
-#[derive(Drop)]
+#[derive(Clone, Copy)]
 struct Verdict {
     on: bool,
     apart: bool,

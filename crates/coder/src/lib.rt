@@ -1,4 +1,6 @@
 // The operations over places.
+#![tactic(auto)]
+
 pub mod pick;
 pub mod rebuild;
 pub mod recover;

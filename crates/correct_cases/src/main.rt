@@ -1,5 +1,7 @@
 // Correct beside plain search over all codewords of a second coder, and beside the codeword that was changed: in two small codes, in random codes over
 // every field, and at 80 points. One line for each group; the file `stdout` beside this folder has what they must be.
+#![tactic(auto)]
+
 mod eighty;
 mod random_codes;
 mod search;

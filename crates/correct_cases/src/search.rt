@@ -8,7 +8,7 @@ use trials::lists::{fill, symbol_at};
 use trials::tally::counted;
 
 // How many codewords lie within t, and the distance of the last one found.
-#[derive(Drop)]
+#[derive(Clone, Copy)]
 pub struct Near {
     pub count: u64,
     pub distance: u64,

@@ -17,7 +17,7 @@ use field::quotient;
 use values::word::word_turn;
 
 // How many coefficients L and U have, and the index behind the last place so far.
-#[derive(Drop)]
+#[derive(Clone, Copy)]
 pub struct Reached {
     pub sizes: Sizes,
     pub behind: usize,

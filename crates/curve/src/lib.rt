@@ -1,4 +1,6 @@
 // Curves and their points, over a field that is given by its number and its two tables.
+#![tactic(auto)]
+
 ghost use Rattle.std.specs.Prelude.{◌≡◌, true, ◌∷◌, [], eqb, get_or};
 ghost use Rattle.basics.specs.Lists.{filter, table};
 ghost use Rattle.basics.specs.Outcome.{Meets};

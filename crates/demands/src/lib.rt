@@ -1,4 +1,6 @@
 // What a customer signs against: three demands over the calls of all operations, in specs/, each with one theorem in proofs/.
+#![tactic(auto)]
+
 ghost use Rattle.std.specs.Prelude.{◌≡◌};
 ghost use Rattle.basics.specs.declared.Answer.TheVariants.{Done};
 ghost use Rattle.codewords.specs.Code.{code_of, code_answer};

@@ -19,7 +19,7 @@ pub const NEW: u8 = 1;
 
 pub const CONTRADICTION: u8 = 2;
 
-#[derive(Drop)]
+#[derive(Clone, Copy)]
 struct Point {
     x: u8,
     y: u8,

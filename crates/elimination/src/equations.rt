@@ -11,7 +11,7 @@ use field::inverse;
 const WIDTH: usize = 289;
 
 // What an equation adds to those before it.
-#[derive(Drop)]
+#[derive(Clone, Copy)]
 pub enum Added {
     New,
     Implied,

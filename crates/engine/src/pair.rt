@@ -12,7 +12,7 @@ use elliptic::Point;
 use field::quotient;
 
 // How many coefficients L and U have. They stand in two arrays: L in the first, or in the second where they have turned.
-#[derive(Drop)]
+#[derive(Clone, Copy)]
 pub struct Sizes {
     pub low: usize,
     pub high: usize,
@@ -20,7 +20,7 @@ pub struct Sizes {
 }
 
 // The same with the interpolant.
-#[derive(Drop)]
+#[derive(Clone, Copy)]
 pub struct Lengths {
     pub pair: Sizes,
     pub word: usize,

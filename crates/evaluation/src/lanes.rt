@@ -7,7 +7,7 @@ use basics::byte::wide;
 use field::{logarithm, product_by_log};
 
 // A coordinate with its logarithm, and the pair of the coefficients passed so far.
-#[derive(Drop)]
+#[derive(Clone, Copy)]
 pub struct Lane {
     pub x: u8,
     pub log: u16,
@@ -15,7 +15,7 @@ pub struct Lane {
     pub s: u8,
 }
 
-#[derive(Drop)]
+#[derive(Clone, Copy)]
 pub struct Four {
     pub a: Lane,
     pub b: Lane,

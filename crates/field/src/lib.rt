@@ -3,6 +3,8 @@
 // generator twice, and then zeros; and for each byte its logarithm, then for each byte the logarithm of its inverse, where what stands for the
 // logarithm of zero leads to the zeros. So a product is one sum of logarithms and one power, with no branch.
 // The field number goes with the tables for the contracts' sake.
+#![tactic(auto)]
+
 ghost use Rattle.std.specs.Prelude.{◌≡◌, ◌+◌, ◌-◌, ◌≤◌, length, get_or};
 ghost use Rattle.std.proofs.Math.Seq.{paste};
 ghost use Rattle.basics.specs.Lists.{table};

@@ -1,6 +1,8 @@
 // Known facts of every field, computed by the tables: the orders of the elements 2 and 3, products, inverses, and a sum over the whole product table.
 // In field 9 the order of 2 is 51; its other products are known from outside.
 // The file `stdout` beside this folder has what they must be.
+#![tactic(auto)]
+
 ghost use Rattle.std.specs.Prelude.{◌*◌};
 ghost use Rattle.field.specs.Galois.{IsField};
 ghost use Rattle.field.specs.Tables.{Tables};

@@ -12,7 +12,7 @@ use field::{inverse, logarithm, product_by_log, quotient};
 use values::pair::pair_step;
 
 // The sum of the multiples that rows have at a point, and the index of a row whose coordinate is the point's, or the number of the rows.
-#[derive(Drop)]
+#[derive(Clone, Copy)]
 struct Multiples {
     sum: u8,
     over: usize,

@@ -1,4 +1,6 @@
 // The job sheet program: a sheet from standard input, its answer to standard output. All that matters is in the crate sheet.
+#![tactic(auto)]
+
 use basics::Answer;
 use sheet::answer::answer_sheet;
 

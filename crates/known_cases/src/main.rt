@@ -1,5 +1,7 @@
 // The known cases of document 01, and all choices of two small codes, by the proved operations and by a second coder that solves the linear equations.
 // One line for each group; the file `stdout` beside this folder has what they must be. A difference shows in its group's line.
+#![tactic(auto)]
+
 mod choices;
 mod hourly;
 mod known;

@@ -3,14 +3,14 @@ ghost use Rattle.std.specs.Prelude.{◌≡◌, ◌≤◌};
 ghost use Rattle.locator.specs.Arrays.{lighter_of, lightest_of, exchanged_at};
 
 // A row's key, and how many coefficients of E its array has.
-#[derive(Drop)]
+#[derive(Clone, Copy)]
 pub struct Head {
     pub key: usize,
     pub size: usize,
 }
 
 // Those of all four rows.
-#[derive(Drop)]
+#[derive(Clone, Copy)]
 pub struct Heads {
     pub a: Head,
     pub b: Head,
@@ -19,7 +19,7 @@ pub struct Heads {
 }
 
 // A row by its index and key, with its defect. The index is 4 where there is none.
-#[derive(Drop)]
+#[derive(Clone, Copy)]
 pub struct Pivot {
     pub at: usize,
     pub key: usize,

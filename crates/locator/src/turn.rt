@@ -13,7 +13,7 @@ use field::quotient;
 pub const HEAD: usize = 74;
 
 // The dimension, the radius, and the largest key that there is room for.
-#[derive(Drop)]
+#[derive(Clone, Copy)]
 pub struct Layout {
     pub k: usize,
     pub t: usize,
@@ -21,7 +21,7 @@ pub struct Layout {
 }
 
 // The multiples of the pivot that the other rows gain.
-#[derive(Drop)]
+#[derive(Clone, Copy)]
 pub struct Multiples {
     pub a: u8,
     pub b: u8,

@@ -8,7 +8,7 @@ use trials::random::below;
 use trials::tally::{Tally, count_of, number_of};
 
 // How many bits are set, and the place of the last of them.
-#[derive(Drop)]
+#[derive(Clone, Copy)]
 struct Listed {
     count: usize,
     last: usize,

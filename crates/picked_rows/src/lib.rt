@@ -1,4 +1,6 @@
 // The rows of the systematic generator matrix at picked places, one at a time: what they are made of is kept in the working space.
+#![tactic(auto)]
+
 pub mod base;
 pub mod begin;
 pub mod row;

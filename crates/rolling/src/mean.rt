@@ -12,7 +12,7 @@ use hours::rounding::nearest;
 const ENOUGH: u32 = 18;
 
 // The number of present means, and the sum of their codes.
-#[derive(Drop)]
+#[derive(Clone, Copy)]
 struct Total {
     count: u32,
     sum: u32,

@@ -12,7 +12,7 @@ pub const ABSENT_CODE: u16 = 32767;
 // The first hour of a run is at most this one.
 const LATEST_FIRST: u32 = 71_000_000;
 
-#[derive(Drop)]
+#[derive(Clone, Copy)]
 pub struct RollingState {
     // The means of the last 24 hours in Pack's 15 bits, the newest first; absent ones stand for hours before the first.
     pub codes: [u16; 24],

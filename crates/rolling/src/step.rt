@@ -11,7 +11,7 @@ use hours::means::ABSENT;
 use hours::packing::is_valid;
 
 // A refused step has the state that went in, and no mean.
-#[derive(Drop)]
+#[derive(Clone, Copy)]
 pub struct Stepped {
     pub answer: Answer,
     pub state: RollingState,

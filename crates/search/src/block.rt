@@ -10,7 +10,7 @@ use tries::choose::Multiple;
 use tries::multiples::try_multiples;
 
 // The best try so far: its cost, and the changes that it makes at a later and at an earlier picked place, by their indices. A change by 0 is none.
-#[derive(Drop)]
+#[derive(Clone, Copy)]
 pub struct Found {
     pub cost: u32,
     pub late: usize,

@@ -1,4 +1,6 @@
 // What the operations over places have in common: their tests, whether places are dependent, and the function that is solved for.
+#![tactic(auto)]
+
 pub mod last_index;
 pub mod last_zero;
 pub mod prepare;

@@ -4,21 +4,21 @@ ghost use Rattle.text.specs.Reading.{is_next, is_digit, more, number, numbers, s
 ghost use Rattle.text.specs.Stages.{found_in, number_in, all_in, Lists};
 
 // The position behind what was found.
-#[derive(Drop)]
+#[derive(Clone, Copy)]
 pub enum Found {
     At(usize),
     Nothing,
 }
 
 // A number, and the position behind it.
-#[derive(Drop)]
+#[derive(Clone, Copy)]
 pub enum Number {
     Value(u16, usize),
     NoNumber,
 }
 
 // How many numbers were read, and the position behind them.
-#[derive(Drop)]
+#[derive(Clone, Copy)]
 pub enum Listed {
     Count(usize, usize),
     NoList,

@@ -9,7 +9,7 @@ use crate::reading::{Found, Listed, read_exactly, read_line};
 const MOST: usize = 4096;
 
 // The first three lines, as they stand.
-#[derive(Drop)]
+#[derive(Clone, Copy)]
 pub struct Head {
     pub field: u16,
     pub g1: u16,
@@ -21,14 +21,14 @@ pub struct Head {
 }
 
 // The first three lines, and the position behind them.
-#[derive(Drop)]
+#[derive(Clone, Copy)]
 pub enum Header {
     Top(Head, usize),
     NoHeader,
 }
 
 // A sheet: the first three lines, and how many places and symbols there are.
-#[derive(Drop)]
+#[derive(Clone, Copy)]
 pub enum Parsed {
     Whole(Head, usize, usize),
     Misshapen,

@@ -11,7 +11,7 @@ use curve::points;
 use elliptic::Curve;
 
 // A code of n points, or none where n is 0.
-#[derive(Drop)]
+#[derive(Clone, Copy)]
 pub struct Drawn {
     pub code: Parameters,
     pub n: usize,

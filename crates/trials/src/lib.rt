@@ -1,4 +1,6 @@
 // What trials of the operations need: random numbers, codes, places, what a second coder finds of them, and tallies of what is compared.
+#![tactic(auto)]
+
 pub mod choose;
 pub mod codes;
 pub mod lists;

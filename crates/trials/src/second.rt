@@ -5,7 +5,7 @@ use crate::lists::count;
 use crate::memory::{equations, symbols};
 use elimination::coder::{CONTRADICTION, NEW, eliminate, solution};
 
-#[derive(Drop)]
+#[derive(Clone, Copy)]
 pub struct Found {
     // How many of the equations are independent.
     pub rank: usize,

@@ -2,7 +2,7 @@
 use basics::Answer;
 use libc::STDOUT_FILENO;
 
-#[derive(Drop)]
+#[derive(Clone, Copy)]
 pub struct Tally {
     pub codes: u64,
     pub choices: u64,

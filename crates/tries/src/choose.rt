@@ -5,7 +5,7 @@ ghost use Rattle.tries.specs.Gathered.{multiple_of, Within};
 ghost use Rattle.tries.specs.Multiples.{price_of, slot_tries};
 
 // A cost, and the multiple that it is of, or 0.
-#[derive(Drop)]
+#[derive(Clone, Copy)]
 pub struct Multiple {
     pub cost: u32,
     pub e: u8,

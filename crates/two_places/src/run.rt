@@ -12,7 +12,7 @@ use engine::pair::{Sizes, first_sizes, swapped};
 use values::pair::pair_step;
 
 // How many points of a run are done, and how many coefficients L and U have then.
-#[derive(Drop)]
+#[derive(Clone, Copy)]
 pub struct Done {
     pub count: usize,
     pub sizes: Sizes,

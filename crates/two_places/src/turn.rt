@@ -11,7 +11,7 @@ use field::{logarithm, product, product_by_log, quotient};
 use values::pair::longer;
 
 // The multiple of L that U gains by the first place, the value of that at the second, and the multiple of it that L gains there.
-#[derive(Drop)]
+#[derive(Clone, Copy)]
 pub struct Factors {
     pub t: u8,
     pub next: u8,
