@@ -10,7 +10,7 @@ use lib.Arith.{digits_lt}
 use lib.Bits.{bit_or, or_shifted_r}
 use lib.Dec.{eqb}
 use lib.ListN.{length, get_or, take, drop, length-take}
-use lib.Pow.{pow_mono, pow_add, shr-shr, shl_exact, high, low, field, mod-mod-pow}
+use lib.Pow.{pow_mono, pow-add, shr-shr, shl_exact, high, low, field, mod-mod-pow}
 use lib.Seq.{length-take-le, take-suc, get_or-take, get_or-drop}
 use Rattle.basics.specs.SetBits.{Bytes, little_endian, is_set}
 
@@ -20,7 +20,7 @@ tail b l h i = h (suc i)
 -- ---- the number that grows by one byte
 
 one_more : (n : ℕ) → 2 ^ (8 * suc n) ≡ 2 ^ (8 * n) * 2 ^ 8
-one_more n = rw (mul-suc 8 n) (pow_add 2 (8 * n) 8)
+one_more n = rw (mul-suc 8 n) (pow-add 2 (8 * n) 8)
 
 little_lt : (l : List ℕ) → Bytes l → little_endian l < 2 ^ (8 * length l)
 unfolding little_endian

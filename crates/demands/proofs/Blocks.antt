@@ -4,7 +4,7 @@ use mathlib.Core.Path.{◌≡◌, refl, sym, ◌∙◌, ap, subst}
 use mathlib.Core.Bool.{true}
 use mathlib.Core.Logic.{◌↔◌}
 use mathlib.Core.List.{List, [], ◌∷◌}
-use native.Mathlib.Nat.{zero_mul}
+use native.Mathlib.Nat.{zero-mul}
 use native.Mathlib.Omega.{arith}
 use lib.Dec.{eqb}
 use lib.IntN.{ℤ}
@@ -48,7 +48,7 @@ value_zero (b ∷ l) h =
     ap (λ b. b * 2 ^ length l + value l) z ∙ zero_mul_add (2 ^ length l) (value l) ∙ value_zero l (both_right (is_zero b) (all is_zero l) h)
   where
     zero_mul_add : (a b : ℕ) → 0 * a + b ≡ b
-    zero_mul_add a b = omega (arith, zero_mul a)
+    zero_mul_add a b = omega (arith, zero-mul a)
 
 zeros_packed : (w k : ℕ) → packed w [] k ≡ replicate k 0
 unfolding word

@@ -3,7 +3,7 @@ use Prim.Native.Nat.{ℕ, zero, suc, ◌+◌, ◌*◌, ◌<◌}
 use mathlib.Core.Path.{◌≡◌, sym, ◌∙◌, ap, subst}
 use mathlib.Core.Bool.{true}
 use mathlib.Core.List.{List, [], ◌∷◌, ◌++◌}
-use native.Mathlib.Nat.{zero_mul, suc-mul}
+use native.Mathlib.Nat.{zero-mul, suc-mul}
 use native.Mathlib.Omega.{arith}
 use lib.ListN.{length, get_or, take, drop, length-append}
 use lib.Seq.{take-append_seam, drop-append-add}
@@ -20,7 +20,7 @@ use Rattle.demands.proofs.Ones.{one_word, codeword_length}
 pub joined_row : (n : ℕ) (rows : List (List ℕ)) → All (λ r. length r ≡ n) rows → (i : ℕ) → i < length rows → row_of n i (joined rows) ≡ get_or rows i []
 joined_row n [] h i l = absurd (omega arith)
 joined_row n (r ∷ rows) h zero l =
-    ap (λ m. take n (drop m (r ++ joined rows))) (zero_mul n) ∙ ap (λ m. take m (r ++ joined rows)) (sym (all_head h)) ∙ take-append_seam r (joined rows)
+    ap (λ m. take n (drop m (r ++ joined rows))) (zero-mul n) ∙ ap (λ m. take m (r ++ joined rows)) (sym (all_head h)) ∙ take-append_seam r (joined rows)
 joined_row n (r ∷ rows) h (suc i) l =
     ap (λ m. take n (drop m (r ++ joined rows))) start ∙ ap (take n) (drop-append-add r (joined rows) (i * n)) ∙ joined_row n rows (all_tail h) i (omega arith)
   where

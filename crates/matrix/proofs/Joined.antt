@@ -3,7 +3,7 @@ use Prim.Native.Nat.{ℕ, zero, suc, ◌+◌, ◌*◌, ◌-◌, ◌<◌, ◌≤�
 use mathlib.Core.Path.{◌≡◌, refl, sym, ◌∙◌, ap, ap₂}
 use mathlib.Core.List.{List, [], ◌∷◌, ◌++◌, append_assoc, append-nil}
 use native.Mathlib.Decide.{ℕ_discrete}
-use native.Mathlib.Nat.{mul-le-mul, mul-le-mul_right, suc-mul, zero_mul}
+use native.Mathlib.Nat.{mul-le-mul, mul-le-mul_right, suc-mul, zero-mul}
 use native.Mathlib.Numerals.{add-one}
 use native.Mathlib.Omega.{arith}
 use borrow.Rule.Slice.PartMut.{put_mid, same_len_mid, take_put, drop_put}
@@ -89,7 +89,7 @@ joined_append (r ∷ a) b = ap (λ l. r ++ l) (joined_append a b) ∙ sym (appen
 -- all parts fill the buffer
 module _ (f : ℕ → List ℕ) (k n : ℕ) (out : List ℕ) (is : (i : ℕ) → i < k → part n i out ≡ f i) where
   parts_front : (i : ℕ) → i ≤ k → take (i * n) out ≡ joined (table f i)
-  parts_front zero h = rw zero_mul
+  parts_front zero h = rw zero-mul
   parts_front (suc i) h =
       ap (λ y. take y out) (suc-mul i n) ∙ take-add (i * n) n out ∙ ap₂ (λ a b. a ++ b) (parts_front i (omega arith)) (is i h)
       ∙ sym (joined_append (table f i) (f i ∷ []) ∙ ap (λ r. joined (table f i) ++ r) (append-nil (f i)))

@@ -13,7 +13,7 @@ use mathlib.Core.List.Memᴰ.{tail as there}
 use mathlib.Core.List.{List, [], ◌∷◌, ◌++◌, map, append_assoc, Memᴰ as In}
 use native.Mathlib.Omega.{arith}
 use native.Mathlib.Decide.{ℕ_discrete}
-use native.Mathlib.Nat.{suc-mul, mul-suc, zero_mul, add-mul}
+use native.Mathlib.Nat.{suc-mul, mul-suc, zero-mul, add-mul}
 use lib.ListN.{length, length-append}
 use Rattle.basics.specs.Lists.{table}
 use Rattle.basics.proofs.Lists.{length_table, map_table}
@@ -47,7 +47,7 @@ module _ {A B : Type 0} where
 
   -- lists of one length
   pub length_each : (f : A → List B) (s : ℕ) → ((a : A) → length (f a) ≡ s) → (l : List A) → length (each l f) ≡ length l * s
-  length_each f s h [] = sym (zero_mul s)
+  length_each f s h [] = sym (zero-mul s)
   length_each f s h (a ∷ l) = length-append (f a) (each l f) ∙ omega (arith, h a, length_each f s h l, suc-mul (length l) s)
 
   pub each_as : (f g : A → List B) → ((a : A) → f a ≡ g a) → (l : List A) → each l f ≡ each l g
@@ -116,7 +116,7 @@ triangle_half n = omega (arith, triangle_twice n)
 -- lists whose length grows with the number
 pub length_down_each : {B : Type 0} (f : ℕ → List B) (s : ℕ) → ((i : ℕ) → length (f i) ≡ i * s) → (n : ℕ) → length (each (down n) f) ≡ triangle n * s
 unfolding down triangle
-length_down_each f s h zero = sym (zero_mul s)
+length_down_each f s h zero = sym (zero-mul s)
 length_down_each f s h (suc n) = length-append (f n) (each (down n) f) ∙ omega (arith, h n, length_down_each f s h n, add-mul n (triangle n) s)
 
 -- ---- 1, 2, .., n

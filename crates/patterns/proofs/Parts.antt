@@ -9,7 +9,7 @@ use mathlib.Core.List.Memᴰ.{head as here}
 use mathlib.Core.List.Memᴰ.{tail as there}
 use mathlib.Core.List.{List, [], ◌∷◌, ◌++◌, Memᴰ as In}
 use native.Mathlib.Omega.{arith}
-use native.Mathlib.Nat.{le_of_suc-le-suc, suc-mul, zero_mul}
+use native.Mathlib.Nat.{le_of_suc-le-suc, suc-mul, zero-mul}
 use lib.ListN.{length, get_or, take, drop, take-append-drop}
 use lib.Seq.{take-append-add, drop-append-add}
 use Rattle.elliptic.proofs.Points.{All, All.nil, All.cons}
@@ -108,7 +108,7 @@ module _ {A : Type 0} where
 
 module _ {A B : Type 0} (f : A → List B) (s : ℕ) (sizes : (a : A) → length (f a) ≡ s) where
   each_take : (m : ℕ) (l : List A) → take (m * s) (each l f) ≡ each (take m l) f
-  each_take zero l = ap (λ n. take n (each l f)) (zero_mul s)
+  each_take zero l = ap (λ n. take n (each l f)) (zero-mul s)
   each_take (suc m) [] = take_none (suc m * s)
     where
       take_none : (n : ℕ) → ◌≡◌ {A = List B} (take n []) []
@@ -123,7 +123,7 @@ module _ {A B : Type 0} (f : A → List B) (s : ℕ) (sizes : (a : A) → length
   in_first m t l h {b = b} i j = in_take (m * s) t (each l f) h (subst (λ l. In b l) (sym (each_take m l)) (in_each f i j))
 
   each_drop : (m r : ℕ) (l : List A) → drop (m * s + r) (each l f) ≡ drop r (each (drop m l) f)
-  each_drop zero r l = let e : 0 * s + r ≡ r = omega (arith, zero_mul s) in ap (λ n. drop n (each l f)) e
+  each_drop zero r l = let e : 0 * s + r ≡ r = omega (arith, zero-mul s) in ap (λ n. drop n (each l f)) e
   each_drop (suc m) r [] = drop_none (suc m * s + r) ∙ sym (drop_none r)
     where
       drop_none : (n : ℕ) → ◌≡◌ {A = List B} (drop n []) []

@@ -3,7 +3,7 @@
 use Prim.Native.Nat.{ℕ, ◌+◌, ◌*◌, ◌-◌, ◌<◌, ◌≤◌}
 use mathlib.Core.Path.{◌≡◌, refl, sym, ◌∙◌, ap}
 use mathlib.Core.List.{List}
-use native.Mathlib.Nat.{zero_mul}
+use native.Mathlib.Nat.{zero-mul}
 use native.Mathlib.Numerals.{add-one}
 use native.Mathlib.Omega.{arith}
 use borrow.Author.Tests.{eq-eqb, ne_eqb}
@@ -66,7 +66,7 @@ module _ (n : ℕ) (work : List ℕ) where
       (take (n + n + n + n - (n + n + n)) (drop (n + n + n) work)) (take (n + n + n + n + n - (n + n + n + n)) (drop (n + n + n + n) work))
   held =
       record {
-        points = ap (λ y. take n (drop y work)) (sym (zero_mul n));
+        points = ap (λ y. take n (drop y work)) (sym (zero-mul n));
         lows = lent_array n 1 n (n + n) work (omega arith) refl;
         highs = lent_array n 2 (n + n) (n + n + n) work (omega arith) refl;
         firsts = lent_array n 3 (n + n + n) (n + n + n + n) work (omega arith) refl;

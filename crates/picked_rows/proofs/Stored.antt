@@ -2,7 +2,7 @@
 use Prim.Native.Nat.{ℕ, ◌+◌, ◌*◌, ◌-◌, ◌≤◌}
 use mathlib.Core.Path.{◌≡◌, sym, ◌∙◌, ap}
 use mathlib.Core.List.{List, ◌++◌}
-use native.Mathlib.Nat.{zero_mul}
+use native.Mathlib.Nat.{zero-mul}
 use native.Mathlib.Omega.{arith}
 use borrow.Rule.Slice.PartMut.{put_mid, drop_put}
 use lib.ListN.{length, take, drop, length-append, length-drop}
@@ -23,7 +23,7 @@ back_size size work z fits e = omega (arith, length-append z (drop size work), l
 
 -- a list in front is the first array
 pub first_array : (size : ℕ) (z rest : List ℕ) → length z ≡ size → part size 0 (z ++ rest) ≡ z
-first_array size z rest e = ap (λ y. take size (drop y (z ++ rest))) (zero_mul size) ∙ take_at z rest size e
+first_array size z rest e = ap (λ y. take size (drop y (z ++ rest))) (zero-mul size) ∙ take_at z rest size e
 
 module _ (size : ℕ) (work : List ℕ) (fits : size + size ≤ length work) where
   pub second_lent : length (take (size + size - size) (drop size work)) ≡ size

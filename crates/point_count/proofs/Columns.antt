@@ -1,6 +1,6 @@
 -- The (X, Y) over a field, column by column: a test passes at some of them, or at none.
 use Prim.Native.Nat.{ℕ, zero, suc, ◌<◌}
-use mathlib.Core.Bool.{Bool, true, false, not, or_true}
+use mathlib.Core.Bool.{Bool, true, false, not, or-true}
 use mathlib.Core.Path.{◌≡◌, refl, ◌∙◌}
 use native.Mathlib.Nat.{not-suc-le-zero}
 use native.Mathlib.Decide.{dec_lt}
@@ -18,7 +18,7 @@ module _ (p : Point → Bool) (q : ℕ) where
       any_append p (columns q n) (table (point n) q) ∙
       elim (dec_lt x n) [
         | yes l ↦ rw (columns_some n x y l hy e)
-        | no g ↦ (let i : x ≡ n = omega arith in rw (in_column n y hy (rw i at e)) (or_true (any p (columns q n))))
+        | no g ↦ (let i : x ≡ n = omega arith in rw (in_column n y hy (rw i at e)) (or-true (any p (columns q n))))
       ]
     where
       in_column : (n y : ℕ) → y < q → p (point n y) ≡ true → any p (table (point n) q) ≡ true

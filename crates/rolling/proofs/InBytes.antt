@@ -3,7 +3,7 @@ use Prim.Native.Nat.{ℕ, zero, suc, ◌+◌, ◌*◌, ◌-◌, ◌/◌, ◌%◌
 use mathlib.Core.Bool.{true}
 use mathlib.Core.Path.{◌≡◌, refl, sym, ◌∙◌, ap}
 use mathlib.Core.List.{List, [], ◌∷◌, ◌++◌, append_assoc, append-nil}
-use native.Mathlib.Nat.{mul_zero, mul-suc, mul_one, mul_add, add_comm, lt_of_lt_of_le}
+use native.Mathlib.Nat.{mul-zero, mul-suc, mul-one, mul-add, add_comm, lt_of_lt_of_le}
 use native.Mathlib.Numerals.{add-one}
 use native.Mathlib.Omega.{arith}
 use borrow.Rule.Slice.PartMut.{mid_of, put_mid, same_len_mid}
@@ -50,7 +50,7 @@ number_at n b i = little_endian (take n (drop (n * i) b))
 
 pub length_in : (n : ℕ) (xs : List ℕ) → length (in_bytes n xs) ≡ n * length xs
 unfolding in_bytes
-length_in n [] = sym (mul_zero n)
+length_in n [] = sym (mul-zero n)
 length_in n (x ∷ xs) = rw (length-append (bytes_of n x) (in_bytes n xs), length_bytes n x, length_in n xs, mul-suc n (length xs)) (add_comm n _)
 
 in_append : (n : ℕ) (xs ys : List ℕ) → in_bytes n (xs ++ ys) ≡ in_bytes n xs ++ in_bytes n ys
@@ -62,7 +62,7 @@ pub number_in : (n : ℕ) (xs rest : List ℕ) (i : ℕ) → i < length xs → g
 unfolding in_bytes
 number_in n [] rest i k h = absurd (omega arith)
 number_in n (x ∷ xs) rest zero k h =
-    rw (mul_zero, append_assoc (bytes_of n x) (in_bytes n xs) rest, take_at (bytes_of n x) (in_bytes n xs ++ rest) n (length_bytes n x)) (little_bytes n x h)
+    rw (mul-zero, append_assoc (bytes_of n x) (in_bytes n xs) rest, take_at (bytes_of n x) (in_bytes n xs ++ rest) n (length_bytes n x)) (little_bytes n x h)
 number_in n (x ∷ xs) rest (suc i) k h =
     let others = in_bytes n xs ++ rest in
     rw (mul-suc, add_comm (n * i) n, ← drop-drop (n * i) n, append_assoc (bytes_of n x) (in_bytes n xs) rest, drop_at (bytes_of n x) others n (length_bytes n x))
@@ -74,7 +74,7 @@ numbers_in n xs rest e = sym (is_table _ xs 0 (λ i k. sym (number_in n xs rest 
 
 pub in_numbers : (n k : ℕ) (b : List ℕ) → Bytes b → n * k ≤ length b → in_bytes n (numbers n k b) ≡ take (n * k) b
 unfolding numbers in_bytes
-in_numbers n zero b h l = rw mul_zero
+in_numbers n zero b h l = rw mul-zero
 in_numbers n (suc k) b h l =
     let room : n * k + n ≤ length b = rw mul-suc at l in
     in_append n (numbers n k b) (number_at n b k ∷ [])
@@ -133,7 +133,7 @@ unfolding in_bytes
 number_stored n xs l i x h k is-z is_x e =
     let size : n * i + n - n * i ≡ n = omega arith in
     let behind = stored_behind l (n * i) (n * i + n) x is-z e (omega arith) k in
-    rw (mul_add n i 1, mul_one) (holds_as behind (rw (add-one, take-suc xs i 0 h, in_append n (take i xs), append-nil, is_x, size)))
+    rw (mul-add n i 1, mul-one) (holds_as behind (rw (add-one, take-suc xs i 0 h, in_append n (take i xs), append-nil, is_x, size)))
 
 pub held_all : {l f : List ℕ} {n : ℕ} → Holds l n f → length l ≤ n → l ≡ f
 held_all {l} {f} {n} h k = sym (take_all n l k) ∙ h.first

@@ -1,7 +1,7 @@
 -- Coefficient after coefficient.
 use borrow.Author.Rules.{rules}
 use mathlib.Core.Path.{◌≡◌}
-use mathlib.Core.Bool.{true, and_true}
+use mathlib.Core.Bool.{true, and-true}
 use native.Mathlib.Omega.{arith}
 use borrow.Author.Tests.{lt-ltb, le-ltb}
 use lib.Dec.{ltb}
@@ -52,7 +52,7 @@ wide-requires-5 : tie.Need-wide-requires-5
 wide-requires-5 c κs = search rules
 
 returns-5 : tie.Need-returns-5
-returns-5 c = simp (passed-1 c.before.before.before.before.before.before.before, passed-2 c.before.before.before.before.before, passed-3 c.before.before.before, passed-4 c.before, c.wide5.ensures, c.before.before.before.before.before.before.before.before.before.size.ensures, and_true)
+returns-5 c = simp (passed-1 c.before.before.before.before.before.before.before, passed-2 c.before.before.before.before.before, passed-3 c.before.before.before, passed-4 c.before, c.wide5.ensures, c.before.before.before.before.before.before.before.before.before.size.ensures, and-true)
 
 pub coefficients-below-spec : {M : Type 1} → statement M
 coefficients-below-spec =

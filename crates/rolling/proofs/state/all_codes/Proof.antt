@@ -1,7 +1,7 @@
 -- The loop's invariant: what the codes passed say, and the rest.
 use Prim.Native.Nat.{◌+◌, ◌-◌}
 use mathlib.Core.Path.{◌≡◌, refl, sym, ◌∙◌}
-use mathlib.Core.Bool.{◌&&◌, and_true, and_assoc}
+use mathlib.Core.Bool.{◌&&◌, and-true, and_assoc}
 use borrow.Author.Rules.{rules}
 use lib.ListN.{length, get_or, drop, drop_of_length-le}
 use Rattle.basics.specs.Lists.{all}
@@ -51,7 +51,7 @@ loop-again c =
 
 returns : tie.Need-returns invariant-loop decreases-loop
 returns c = let codes = c.before.before.before.args.codes.now in
-    sym (and_true c.before.loop.good) ∙ rw (drop_of_length-le codes {i = c.before.loop.i} c.loop-test.false) at c.before.loop.invariant
+    sym (and-true c.before.loop.good) ∙ rw (drop_of_length-le codes {i = c.before.loop.i} c.loop-test.false) at c.before.loop.invariant
 
 pub all-codes-spec : {M : Type 1} → statement M
 all-codes-spec =

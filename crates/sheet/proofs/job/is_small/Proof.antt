@@ -1,5 +1,5 @@
 -- One coefficient after the other.
-use mathlib.Core.Bool.{and_true}
+use mathlib.Core.Bool.{and-true}
 use mathlib.Core.Path.{sym}
 use borrow.Author.Tests.{lt-ltb, le-ltb}
 use lib.Dec.{ltb}
@@ -26,7 +26,7 @@ returns-4 : tie.Need-returns-4
 returns-4 c = simp (lt-ltb (entry c.before.before.before).args.h.g1 256 c.before.before.before.before.before.before.if1.false, lt-ltb (entry c.before.before.before).args.h.g2 256 c.before.before.before.before.if2.false, lt-ltb (entry c.before.before.before).args.h.g3 256 c.before.before.if3.false, le-ltb (entry c.before.before.before).args.h.g4 256 c.if4.true)
 
 returns-5 : tie.Need-returns-5
-returns-5 c = simp (lt-ltb (past-if1 c).before.before.args.h.g1 256 (past-if1 c).if1.false, lt-ltb (past-if1 c).before.before.args.h.g2 256 c.before.before.before.before.before.if2.false, lt-ltb (past-if1 c).before.before.args.h.g3 256 c.before.before.before.if3.false, lt-ltb (past-if1 c).before.before.args.h.g4 256 c.before.if4.false) (sym (and_true (ltb (past-if1 c).before.before.args.h.g6 256)))
+returns-5 c = simp (lt-ltb (past-if1 c).before.before.args.h.g1 256 (past-if1 c).if1.false, lt-ltb (past-if1 c).before.before.args.h.g2 256 c.before.before.before.before.before.if2.false, lt-ltb (past-if1 c).before.before.args.h.g3 256 c.before.before.before.if3.false, lt-ltb (past-if1 c).before.before.args.h.g4 256 c.before.if4.false) (sym (and-true (ltb (past-if1 c).before.before.args.h.g6 256)))
 
 pub is-small-spec : {M : Type 1} → statement M
 is-small-spec = tie.close (tie.spec returns returns-2 returns-3 returns-4 returns-5)
