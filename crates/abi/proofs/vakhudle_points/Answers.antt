@@ -1,0 +1,16 @@
+-- The operation's answer as a number.
+use mathlib.Core.Path.{◌∙◌}
+use mir.Syntax.{w32}
+use mir.ValLaws.{to_z-of_z}
+use Rattle.abi.specs.Arguments.{curve_of}
+use Rattle.basics.proofs.Outcomes.{report}
+use borrow.Author.Rules.{rules}
+use Rattle.abi.proofs.Counts.{points_counts}
+use Rattle.abi.proofs.vakhudle_points.Goals as goal
+
+pub status-requires : goal.status-requires
+status-requires c =
+    rw c.points.ensures.answers (points_counts c.args.field (curve_of c.args.g1 c.args.g2 c.args.g3 c.args.g4 c.args.g6) c.args.xs.now c.args.ys.now)
+
+pub returns : goal.returns
+returns c = report c.points.ensures (to_z-of_z w32 c.status.result (record { sfits = c.status.type-inv }) ∙ c.status.ensures)

@@ -1,0 +1,18 @@
+-- The loop's invariant: the first j places are marked.
+use Prim.Native.Nat.{◌≤◌, ◌-◌}
+use mathlib.Core.Path.{◌≡◌, refl, sym, ◌∙◌, ap}
+use mathlib.Core.List.{[]}
+use native.Mathlib.Omega.{arith}
+use lib.ListN.{length, get_or, take, length-set}
+use lib.Seq.{take_all}
+use Rattle.basics.specs.Lists.{table}
+use Rattle.arrangement.specs.Arranged.{free_at}
+use Rattle.arrangement.proofs.Arranged.{free_turn}
+use borrow.Author.Rules.{rules}
+use Rattle.arrangement.proofs.arrange.mark.Given as goal
+
+abbrev pub invariant-loop-j : goal.invariant-loop-j
+invariant-loop-j l = (l.j ≤ length l.places) × (length l.free ≡ length l.initial.free) × (l.free ≡ table (free_at (take l.j l.places)) (length l.initial.free))
+
+abbrev pub decreases-loop-j : goal.decreases-loop-j
+decreases-loop-j l = length l.places - l.j

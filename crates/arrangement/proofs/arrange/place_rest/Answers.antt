@@ -1,0 +1,45 @@
+use Prim.Native.Nat.{◌-◌, ◌<◌}
+use mathlib.Core.Path.{sym, ◌∙◌}
+use native.Mathlib.Omega.{arith}
+use lib.ListN.{length}
+use Rattle.arrangement.proofs.Arranged.{marks_long, ArrangedTo, arranged_none, point_left, mark_small, arranged_turn, arranged_all}
+use borrow.Author.Rules.{rules}
+use Rattle.arrangement.proofs.arrange.place_rest.Goals as goal
+
+-- there is room in a turn, and so a point
+room : (c : goal.In-loop-s) → c.loop-s.s < length c.args.from.now
+room c = omega (arith, c.loop-s-test.true, c.loop-s.invariant.size)
+
+inside : (c : goal.In-loop-s) → c.loop-s.t < length c.args.from.now
+inside c = point_left c.requires.arrangeable c.loop-s.invariant (room c)
+
+pub loop-s-init : goal.loop-s-init
+loop-s-init c = arranged_none _ _ _ c.requires.arrangeable.room c.requires.gathered
+
+pub bounds-from-t : goal.bounds-from-t
+bounds-from-t c = inside c.before
+
+pub bounds-out-s : goal.bounds-out-s
+bounds-out-s c = omega (arith, c.loop-s-test.true)
+
+pub bounds-free-t : goal.bounds-free-t
+bounds-free-t c = omega (arith, inside c.before.before, marks_long c.requires.arrangeable)
+
+pub overflow_add-s : goal.overflow_add-s
+overflow_add-s c =
+    record { fits = omega (arith, room c.before.before.before, c.wide-s.ensures, mark_small c.requires.arrangeable _ (inside c.before.before.before), c.requires.arrangeable.few) }
+
+pub overflow_add-t : goal.overflow_add-t
+overflow_add-t c = record { fits = omega (arith, inside c.before.before.before, c.requires.arrangeable.few) }
+
+pub loop-s-smaller : goal.loop-s-smaller
+loop-s-smaller c = omega (arith, inside c.before.before.before)
+
+pub loop-s-preserved : goal.loop-s-preserved
+loop-s-preserved c = arranged_turn c.requires.arrangeable c.loop-s.invariant (room c.before.before.before) c.wide-s.ensures
+
+pub shape_of-out : goal.shape_of-out
+shape_of-out c = c.loop-s.invariant.size ∙ sym c.requires.arrangeable.room
+
+pub returns : goal.returns
+returns c = arranged_all c.requires.arrangeable c.loop-s.invariant (omega (arith, c.loop-s.invariant.size))

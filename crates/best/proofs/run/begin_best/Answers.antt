@@ -1,0 +1,40 @@
+-- All places are ranked, Pick keeps k of them, and what the tries need is prepared at these.
+use Prim.Native.Nat.{◌<◌, ◌≤◌}
+use mathlib.Core.Path.{sym, ◌∙◌}
+use native.Mathlib.Omega.{arith}
+use lib.ListN.{length}
+use lib.Seq.{length-take-le}
+use Rattle.codewords.proofs.Accepted.{accepted_done}
+use Rattle.best.proofs.Beginning.{ranked_placed, ranked_more, ranked_given, room_spared}
+use borrow.Author.Rules.{rules}
+use Rattle.best.proofs.run.begin_best.Goals as goal
+
+-- a code has at most 288 points
+few : (c : goal.Start) → length c.args.xs.now ≤ 288
+few c = (accepted_done _ c.requires.given.0.done).n_most
+
+-- more than k places are ranked
+more : (c : goal.After-pick_ranked) → c.args.p.k < length c.pick_ranked.new.ranked
+more c = omega (arith, c.pick_ranked.auto.ranked, ranked_more c.requires.given.0 c.rank.ensures)
+
+pub rank-requires : goal.rank-requires
+rank-requires c =
+    (c.requires.given.1 ∙ sym c.requires.given.0.trusted, omega (arith, c.requires.given.0.trusted, few c.before.before.before.before.before.before.before.before))
+
+pub pick_ranked-requires : goal.pick_ranked-requires
+pick_ranked-requires c =
+    record { tables = c.requires.tables; placed = (ranked_placed c.requires.given.0 c.rank.ensures, ranked_more c.requires.given.0 c.rank.ensures) }
+
+pub slice_bounds-prepare-end : goal.slice_bounds-prepare-end
+slice_bounds-prepare-end c = omega (arith, more c.before.before)
+
+pub slice_bounds-prepare-end-2 : goal.slice_bounds-prepare-end-2
+slice_bounds-prepare-end-2 c = sym (length-take-le _ _ (omega (arith, more c.before.before)))
+
+pub prepare-requires : goal.prepare-requires
+prepare-requires c =
+    record { tables = c.requires.tables; given = (ranked_given c.requires.given.0 c.rank.ensures c.pick_ranked.ensures, c.requires.given.2, omega (arith, few c.before.before.before.before.before.before.before.before.before.before.before.before.before.before.before.before.before, c.requires.given.3)) }
+
+pub returns : goal.returns
+returns c =
+    (c.prepare.ensures.0, room_spared (length c.args.xs.now) c.args.work.now c.prepare.new.work (few c.before.before.before.before.before.before.before.before.before.before.before.before.before.before.before.before.before.before.before.before.before.before) c.prepare.ensures.1)

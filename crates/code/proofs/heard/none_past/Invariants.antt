@@ -1,0 +1,18 @@
+-- The loop's invariant: no place past n is heard up to bit `from` of word w.
+use Prim.Native.Nat.{◌+◌, ◌*◌, ◌-◌, ◌/◌, ◌%◌, ◌^◌, ◌≤◌, ◌<◌}
+use mathlib.Core.Path.{◌≡◌, sym, ◌∙◌, subst}
+use mathlib.Core.Bool.{true}
+use native.Mathlib.Nat.{add-zero}
+use native.Mathlib.Omega.{arith}
+use borrow.Author.Tests.{eq-eqb, ne_eqb}
+use lib.Dec.{eqb}
+use Rattle.code.specs.Heard.{heard_at}
+use Rattle.code.proofs.Words.{silent, silent_none, silent_more, not_silent}
+use borrow.Author.Rules.{rules}
+use Rattle.code.proofs.heard.none_past.Given as goal
+
+abbrev pub invariant-loop-w : goal.invariant-loop-w
+invariant-loop-w l = (silent (heard_at l.mask) l.n (64 * l.w + l.from - l.n) ≡ true) × (l.n ≤ 64 * l.w + l.from) × (64 * l.w + l.from ≤ 320) × (l.from < 64)
+
+abbrev pub decreases-loop-w : goal.decreases-loop-w
+decreases-loop-w l = 5 - l.w

@@ -1,0 +1,27 @@
+-- The loop's invariant: the bits are below q exactly if all coordinates so far are, the first flag says that these points lie on the curve, and the second that no
+-- slot of theirs was met twice.
+use Prim.Native.Nat.{ℕ, ◌≤◌, ◌<◌, ◌-◌}
+use mathlib.Core.Path.{◌≡◌, refl, sym, ◌∙◌, ap, ap₂}
+use mathlib.Core.Bool.{◌&&◌}
+use native.Mathlib.Omega.{arith}
+use borrow.Author.Rules.{rules}
+use lib.Dec.{eqb, ltb}
+use lib.ListN.{length, length-set}
+use Rattle.basics.specs.Lists.{all, different, table}
+use Rattle.field.specs.Galois.{size, galois}
+use Rattle.elliptic.specs.Curve.{in_field, on_curve}
+use Rattle.code.specs.Points.{is_point}
+use Rattle.code.specs.Slots.{listed, slot_at}
+use Rattle.code.proofs.Bounds.{bits_none, bits_next, all_both}
+use Rattle.code.proofs.Marking.{Marked, marked_none, marked_next, all_next}
+use Rattle.code.proofs.Repeats.{points_table}
+use Rattle.code.proofs.test.pass_over.Given as goal
+
+abbrev pub invariant-loop-i : goal.invariant-loop-i
+invariant-loop-i l = (l.i ≤ length l.xs) × (length l.seen ≡ length l.initial.seen)
+    × (ltb l.bits (size l.m) ≡ all (in_field (galois l.m)) (table (listed l.xs l.ys) l.i))
+    × (l.on ≡ all (on_curve (galois l.m) l.c) (table (listed l.xs l.ys) l.i))
+    × Marked (slot_at (galois l.m) l.c l.xs l.ys) l.seen l.i l.apart
+
+abbrev pub decreases-loop-i : goal.decreases-loop-i
+decreases-loop-i l = length l.xs - l.i

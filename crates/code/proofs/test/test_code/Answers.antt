@@ -1,0 +1,26 @@
+-- The field number and the tables, and then the rest.
+use mathlib.Core.Path.{sym, ◌∙◌}
+use borrow.Author.Tests.{not-true}
+use Rattle.field.specs.Galois.{IsField}
+use Rattle.codewords.specs.Code.{code_answer}
+use Rattle.code.proofs.Answering.{refused_by}
+use Rattle.code.proofs.Tested.{field_number}
+use borrow.Author.Rules.{rules}
+use Rattle.code.proofs.test.test_code.Goals as goal
+
+is_field_lem : (c : goal.Else-not-is_field) → IsField c.args.p.field
+is_field_lem c = field_number c.is_field.ensures c.if-not-is_field.false
+
+pub returns-then-not-is_field : goal.returns-then-not-is_field
+unfolding code_answer
+returns-then-not-is_field c = refused_by _ _ (sym c.is_field.ensures ∙ not-true _ c.if-not-is_field.true)
+
+pub powers-requires : goal.powers-requires
+powers-requires c = is_field_lem c
+
+pub logarithms-requires : goal.logarithms-requires
+logarithms-requires c = is_field_lem c.before.before
+
+pub test_code_with-requires : goal.test_code_with-requires
+test_code_with-requires c =
+    record { field = is_field_lem c.before.before.before.before; is_powers = c.powers.ensures; is_logs = c.logarithms.ensures }

@@ -1,0 +1,16 @@
+-- The loop's invariant: the first i places are copied; the last store is behind them.
+use mathlib.Core.Path.{◌≡◌, refl, sym, ◌∙◌, ap}
+use mathlib.Core.List.{◌∷◌, [], ◌++◌}
+use Prim.Native.Nat.{suc, ◌≤◌, ◌-◌}
+use native.Mathlib.Numerals.{add-one}
+use native.Mathlib.Omega.{arith}
+use lib.ListN.{length, take, set, length-set}
+use lib.Seq.{take-suc, take-suc-set, take_all}
+use borrow.Author.Rules.{rules}
+use Rattle.coder.proofs.pick.write_picked.Given as goal
+
+abbrev pub invariant-loop-i : goal.invariant-loop-i
+invariant-loop-i l = (l.i ≤ l.end) × (length l.out ≡ length l.initial.out) × (take l.i l.out ≡ take l.i l.ranked)
+
+abbrev pub decreases-loop-i : goal.decreases-loop-i
+decreases-loop-i l = l.end - l.i

@@ -1,0 +1,52 @@
+-- The tests up to number 12, and then what was solved for, if it agrees.
+use mathlib.Core.Path.{◌≡◌, sym, ◌∙◌}
+use mathlib.Core.Logic.{⊎_elim}
+use native.Mathlib.Omega.{arith}
+use borrow.Author.Tests.{not-true, not-false}
+use Rattle.basics.specs.declared.Answer.TheVariants.{Done}
+use Rattle.basics.proofs.Outcomes.{pass, refuse, accept_pair}
+use Rattle.codewords.specs.Code.{code_of}
+use Rattle.solving.specs.Given.{solved_word}
+use Rattle.solving.specs.Tests.{posed_answer}
+use Rattle.solving.proofs.Chains.{posed_go, posed_stop, solvable, enough}
+use Rattle.solving.proofs.Link.{all_in_lem}
+use Rattle.basics.proofs.Lists.{copied}
+use Rattle.coder.proofs.Results.{agreed_by, rebuilt}
+use borrow.Author.Rules.{rules}
+use Rattle.coder.proofs.rebuild.rebuild_run.Goals as goal
+
+pub prepare_word-prepared-requires : goal.prepare_word-prepared-requires
+prepare_word-prepared-requires c = record { tables = c.requires.tables; ys_value = c.requires.ys_value; symbols_len = (c.requires.symbols_len.0, c.requires.symbols_len.3) }
+
+-- the tests were passed, and the word stands in f
+passed : (c : goal.In-Done) → posed_answer (code_of c.args.p c.args.xs.now c.args.ys.now) c.args.places.now c.args.symbols.now ≡ Done
+passed c = sym c.prepare_word-prepared.ensures.answers ∙ c.in-Done.is
+
+holds : (c : goal.In-Done) → c.prepare_word-prepared.new.f ≡ solved_word (code_of c.args.p c.args.xs.now c.args.ys.now) c.args.places.now c.args.symbols.now
+holds c = c.prepare_word-prepared.ensures.holds c.in-Done.is
+
+pub agrees_at-requires : goal.agrees_at-requires
+agrees_at-requires c =
+    (all_in_lem (solvable _ _ _ (passed c) c.requires.ys_value c.requires.symbols_len.0).placed c.prepare_word-prepared.new.f (c.prepare_word-prepared.auto.f ∙ c.requires.symbols_len.3), c.requires.symbols_len.0)
+
+pub returns-then-not-agrees_at : goal.returns-then-not-agrees_at
+returns-then-not-agrees_at c =
+    posed_go _ _ _ (passed c.before.before) _ (refuse _ (agreed_by _ _ _ c.requires.ys_value (enough _ _ _ (passed c.before.before) c.requires.ys_value c.requires.symbols_len.0) (holds c.before.before) c.agrees_at.ensures ∙ not-true _ c.if-not-agrees_at.true))
+
+pub copy-requires : goal.copy-requires
+copy-requires c = (omega (arith, c.prepare_word-prepared.auto.f, c.requires.symbols_len.3), omega (arith, c.requires.symbols_len.1))
+
+pub clear_room-requires : goal.clear_room-requires
+clear_room-requires c = c.requires.symbols_len.2
+
+pub returns-in-Done : goal.returns-in-Done
+returns-in-Done c =
+    let t = agreed_by _ _ _ c.requires.ys_value (enough _ _ _ (passed c.before.before.before.before.before.before.before.before.before.before) c.requires.ys_value c.requires.symbols_len.0) (holds c.before.before.before.before.before.before.before.before.before.before) c.agrees_at.ensures ∙ not-false _ c.if-not-agrees_at.false in
+    posed_go _ _ _ (passed c.before.before.before.before.before.before.before.before.before.before) _
+    (pass _ t
+    (accept_pair
+    (copied (c.prepare_word-prepared.auto.f ∙ c.requires.symbols_len.3) (c.copy.auto.out ∙ c.requires.symbols_len.1) c.copy.ensures ∙ rebuilt _ _ _ c.requires.ys_value (enough _ _ _ (passed c.before.before.before.before.before.before.before.before.before.before) c.requires.ys_value c.requires.symbols_len.0) (holds c.before.before.before.before.before.before.before.before.before.before) t)
+    c.clear_room.ensures))
+
+pub returns : goal.returns
+returns c = posed_stop _ _ _ _ c.prepare_word-prepared.ensures.answers (λ d. ⊎_elim (λ e. omega (arith, e)) (λ e. omega (arith, e)) (rw d at c.in_default.in_default-own.keys2))

@@ -1,0 +1,28 @@
+-- The places are tested, and then the engine runs with its own arrays.
+use mathlib.Core.Path.{◌≡◌, sym, ◌∙◌}
+use mathlib.Core.Logic.{⊎_elim}
+use native.Mathlib.Omega.{arith}
+use lib.ListN.{length}
+use Rattle.basics.specs.declared.Answer.TheVariants.{Done}
+use Rattle.codewords.proofs.Accepted.{accepted_done}
+use Rattle.solving.specs.Tests.{places_answer}
+use Rattle.solving.proofs.Chains.{places_go, places_stop, are_placed}
+use borrow.Author.Rules.{rules}
+use Rattle.coder.proofs.relation.relation_placed.Goals as goal
+
+pub test_places-tested-requires : goal.test_places-tested-requires
+test_places-tested-requires c = (accepted_done _ c.requires.ys_value).n_most
+
+-- the tests were passed
+passed : (c : goal.In-Done) → places_answer (length c.args.xs.now) c.args.places.now ≡ Done
+passed c = sym c.test_places-tested.ensures ∙ c.in-Done.is
+
+pub relation_run-requires : goal.relation_run-requires
+relation_run-requires c =
+    record { tables = c.requires.tables; placed = (are_placed _ _ (passed c.before.before.before.before) c.requires.ys_value, (omega arith, omega arith), c.requires.places_len.0, c.requires.places_len.1, c.requires.places_len.2) }
+
+pub returns-in-Done : goal.returns-in-Done
+returns-in-Done c = places_go _ _ (passed c.before.before.before.before.before.before.before.before.before.before.before) _ c.relation_run.ensures
+
+pub returns : goal.returns
+returns c = places_stop _ _ _ c.test_places-tested.ensures (λ d. ⊎_elim (λ e. omega (arith, e)) (λ e. omega (arith, e)) (rw d at c.in_default.in_default-own.keys2))

@@ -1,0 +1,12 @@
+-- The loop goes over all codewords.
+use Prim.Native.Nat.{◌-◌}
+use mathlib.Core.Path.{◌≡◌}
+use lib.ListN.{length}
+use borrow.Author.Rules.{rules}
+use Rattle.correct_cases.proofs.search.search.Given as goal
+
+abbrev pub invariant-loop-i : goal.invariant-loop-i
+invariant-loop-i l = (length l.function ≡ length l.initial.function) × (length l.word ≡ length l.initial.word) × (length l.nearest ≡ length l.initial.nearest)
+
+abbrev pub decreases-loop-i : goal.decreases-loop-i
+decreases-loop-i l = l.words - l.i

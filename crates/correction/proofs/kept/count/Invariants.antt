@@ -1,0 +1,15 @@
+-- The loop's invariant: c kept places are among the first i places.
+use mathlib.Core.Path.{◌≡◌, ◌∙◌, ap}
+use Prim.Native.Nat.{◌-◌, ◌≤◌}
+use native.Mathlib.Omega.{arith}
+use lib.ListN.{length}
+use borrow.Author.Rules.{rules}
+use Rattle.correction.specs.Kept.{kept_before}
+use Rattle.correction.proofs.Counting.{none_kept, count_more, count_few}
+use Rattle.correction.proofs.kept.count.Given as goal
+
+abbrev pub invariant-loop-i : goal.invariant-loop-i
+invariant-loop-i l = (l.i ≤ length l.e) × (l.c ≡ length (kept_before l.e l.i))
+
+abbrev pub decreases-loop-i : goal.decreases-loop-i
+decreases-loop-i l = length l.e - l.i

@@ -1,0 +1,72 @@
+-- The error locator, and from its values on: each stage ensures what the next requires.
+use Prim.Native.Nat.{◌≤◌}
+use mathlib.Core.Path.{sym}
+use native.Mathlib.Omega.{arith}
+use lib.ListN.{length}
+use lib.Seq.{length-take-le}
+use borrow.Author.Rules.{rules}
+use Rattle.codewords.specs.Code.{Code, code_of}
+use Rattle.codewords.proofs.Accepted.{accepted_done}
+use Rattle.decoding.specs.Near.{radius}
+use Rattle.correction.proofs.Locating.{seconds_below, symbols_below, laid_for, located}
+use Rattle.correction.proofs.run.correct_in.Goals as goal
+
+abbrev code : goal.Start → Code
+code c = code_of c.args.p c.args.xs.now c.args.ys.now
+
+-- the arrays are long enough for the values at all points
+long-a : (c : goal.After-slice_known-10-1) → length c.args.xs.now ≤ length c.locate.new.a
+long-a c = omega (arith, c.locate.auto, c.requires.four_long.a_long)
+
+long-b : (c : goal.After-slice_known-10-1) → length c.args.xs.now ≤ length c.locate.new.b
+long-b c = omega (arith, c.locate.auto, c.requires.four_long.b_long)
+
+long-c : (c : goal.After-slice_known-10-1) → length c.args.xs.now ≤ length c.locate.new.c
+long-c c = omega (arith, c.locate.auto, c.requires.four_long.c_long)
+
+long-d : (c : goal.After-slice_known-10-1) → length c.args.xs.now ≤ length c.locate.new.d
+long-d c = omega (arith, c.locate.auto, c.requires.four_long.d_long)
+
+pub layout-shape-requires : goal.layout-shape-requires
+layout-shape-requires c =
+    let a = accepted_done (code c.before.before.before.before.before.before.before.before.before) c.requires.ys_value in
+    (omega (arith, a.k_most), a.n_most)
+
+pub locate-requires : goal.locate-requires
+locate-requires c =
+    let (size, fits, room, are_symbols) = c.requires.r_len in record { tables = c.requires.tables; laid = (
+        laid_for (code c.before.before.before.before.before.before.before.before.before.before.before.before.before.before) c.requires.ys_value c.args.r.now are_symbols size c.layout-shape.ensures,
+        seconds_below (code c.before.before.before.before.before.before.before.before.before.before.before.before.before.before) c.requires.ys_value,
+        symbols_below (code c.before.before.before.before.before.before.before.before.before.before.before.before.before.before) c.requires.ys_value c.args.r.now are_symbols size,
+        c.requires.four_long,
+      ) }
+
+pub slice_bounds-correct_kept-end : goal.slice_bounds-correct_kept-end
+slice_bounds-correct_kept-end c = long-a c
+
+pub slice_bounds-correct_kept-end-2 : goal.slice_bounds-correct_kept-end-2
+slice_bounds-correct_kept-end-2 c = sym (length-take-le _ _ (long-a c))
+
+pub slice_bounds-correct_kept-end-3 : goal.slice_bounds-correct_kept-end-3
+slice_bounds-correct_kept-end-3 c = long-b c
+
+pub slice_bounds-correct_kept-end-4 : goal.slice_bounds-correct_kept-end-4
+slice_bounds-correct_kept-end-4 c = sym (length-take-le _ _ (long-b c.before))
+
+pub slice_bounds-correct_kept-end-5 : goal.slice_bounds-correct_kept-end-5
+slice_bounds-correct_kept-end-5 c = long-c c.before
+
+pub slice_bounds-correct_kept-end-6 : goal.slice_bounds-correct_kept-end-6
+slice_bounds-correct_kept-end-6 c = sym (length-take-le _ _ (long-c c.before.before))
+
+pub slice_bounds-correct_kept-end-7 : goal.slice_bounds-correct_kept-end-7
+slice_bounds-correct_kept-end-7 c = long-d c.before.before
+
+pub slice_bounds-correct_kept-end-8 : goal.slice_bounds-correct_kept-end-8
+slice_bounds-correct_kept-end-8 c = sym (length-take-le _ _ (long-d c.before.before.before))
+
+pub correct_kept-requires : goal.correct_kept-requires
+unfolding radius
+correct_kept-requires c =
+    let (size, fits, room, are_symbols) = c.requires.r_len in
+    record { tables = c.requires.tables; located = (located (code c.before.before.before.before.before.before.before.before.before.before.before.before.before.before.before.before.before.before.before.before.before.before.before.before.before.before.before.before) c.requires.ys_value c.args.r.now are_symbols size c.layout-shape.ensures c.locate.ensures, c.layout-shape.ensures.t_is); l_len = (length-take-le _ _ (long-b c.before.before.before.before.before), length-take-le _ _ (long-c c.before.before.before.before.before), length-take-le _ _ (long-d c.before.before.before.before.before), fits, room) }

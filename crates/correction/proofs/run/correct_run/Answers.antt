@@ -1,0 +1,42 @@
+-- The parts of the arrays that there is need for.
+use Prim.Native.Nat.{◌+◌, ◌≤◌}
+use mathlib.Core.Path.{sym}
+use native.Mathlib.Omega.{arith}
+use lib.ListN.{length}
+use lib.Seq.{length-take-le}
+use borrow.Author.Rules.{rules}
+use Rattle.codewords.specs.Code.{code_of}
+use Rattle.codewords.proofs.Accepted.{accepted_done}
+use Rattle.correction.proofs.run.correct_run.Goals as goal
+
+-- the arrays are long enough
+room : (c : goal.Start) → 74 + length c.args.xs.now ≤ 362
+room c = omega (arith, (accepted_done (code_of c.args.p c.args.xs.now c.args.ys.now) c.requires.ys_value).n_most)
+
+pub slice_bounds-a-end : goal.slice_bounds-a-end
+slice_bounds-a-end c = room c.before.before.before.before.before
+
+pub slice_bounds-correct_in-end : goal.slice_bounds-correct_in-end
+slice_bounds-correct_in-end c = sym (length-take-le _ _ (room c.before.before.before.before.before.before))
+
+pub slice_bounds-b-end : goal.slice_bounds-b-end
+slice_bounds-b-end c = room c.before.before.before.before.before.before
+
+pub slice_bounds-correct_in-end-2 : goal.slice_bounds-correct_in-end-2
+slice_bounds-correct_in-end-2 c = sym (length-take-le _ _ (room c.before.before.before.before.before.before.before))
+
+pub slice_bounds-c-end : goal.slice_bounds-c-end
+slice_bounds-c-end c = room c.before.before.before.before.before.before.before
+
+pub slice_bounds-correct_in-end-3 : goal.slice_bounds-correct_in-end-3
+slice_bounds-correct_in-end-3 c = sym (length-take-le _ _ (room c.before.before.before.before.before.before.before.before))
+
+pub slice_bounds-d-end : goal.slice_bounds-d-end
+slice_bounds-d-end c = room c.before.before.before.before.before.before.before.before
+
+pub slice_bounds-correct_in-end-4 : goal.slice_bounds-correct_in-end-4
+slice_bounds-correct_in-end-4 c = sym (length-take-le _ _ (room c.before.before.before.before.before.before.before.before.before))
+
+pub correct_in-requires : goal.correct_in-requires
+correct_in-requires c =
+    record { tables = c.requires.tables; ys_value = c.requires.ys_value; r_len = c.requires.r_len; four_long = record { a_long = length-take-le _ _ (room c.before.before.before.before.before.before.before.before.before.before.before); b_long = length-take-le _ _ (room c.before.before.before.before.before.before.before.before.before.before.before); c_long = length-take-le _ _ (room c.before.before.before.before.before.before.before.before.before.before.before); d_long = length-take-le _ _ (room c.before.before.before.before.before.before.before.before.before.before.before) } }

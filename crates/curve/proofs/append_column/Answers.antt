@@ -1,0 +1,39 @@
+use borrow.Author.Rules.{rules}
+use Prim.Native.Nat.{◌≤◌, ◌-◌}
+use mathlib.Core.Path.{◌≡◌, ◌∙◌}
+use mathlib.Core.Logic.{⊎_elim}
+use native.Mathlib.Omega.{arith}
+use Rattle.basics.specs.Lists.{filter, table}
+use Rattle.field.specs.Galois.{size}
+use Rattle.field.proofs.Galois.{size_le}
+use Rattle.elliptic.specs.Curve.{point}
+use Rattle.curve.specs.Listing.{Rooms, Appends}
+use Rattle.curve.proofs.Equation.{solution, column_as}
+use Rattle.curve.proofs.Listing.{appends_none, turn_yes, turn_no}
+use Rattle.curve.proofs.append_column.Goals as goal
+
+pub loop-y-init : goal.loop-y-init
+loop-y-init c = (search rules, search rules, appends_none _ _ _)
+
+pub overflow_cast-b : goal.overflow_cast-b
+overflow_cast-b c = omega (arith, size_le c.requires.0.field)
+
+pub loop-y-preserved : goal.loop-y-preserved
+loop-y-preserved c =
+    ⊎_elim
+    (λ w. (
+      omega arith,
+      rw (w.8, w.9) (w.3.kept.0 ∙ c.loop-y.invariant.1.0, w.3.kept.1.0 ∙ c.loop-y.invariant.1.1),
+      rw (w.8, w.9, w.10) (turn_yes (solution _ _ _) (point c.args.x) c.loop-y.y c.loop-y.invariant.2 c.solves.ensures w.0.taken w.3.ensures),
+    ))
+    (λ w. (
+      omega arith,
+      rw (w.1, w.2) c.loop-y.invariant.1,
+      rw (w.1, w.2, w.3) (turn_no (solution _ _ _) (point c.args.x) c.loop-y.y c.loop-y.invariant.2 c.solves.ensures w.0.left),
+    ))
+    c.if-solves.branch
+
+pub returns : goal.returns
+returns c =
+    let whole : c.loop-y.y ≡ size c.args.m = omega arith in
+    rw (← column_as c.requires.0.field c.args.c c.args.x (size c.args.m), ← c.right-v.ensures, ← c.trace-t.ensures, ← whole) c.loop-y.invariant.2

@@ -1,0 +1,36 @@
+-- Coefficient after coefficient.
+use borrow.Author.Rules.{rules}
+use mathlib.Core.Path.{◌≡◌}
+use mathlib.Core.Bool.{true, and-true}
+use native.Mathlib.Omega.{arith}
+use borrow.Author.Tests.{lt-ltb, le-ltb}
+use lib.Dec.{ltb}
+use Rattle.field.specs.Galois.{size}
+use Rattle.curve.proofs.coefficients_below.Goals as goal
+
+passed-1 : (c : goal.Else-q-wide) → ltb c.args.c.g1 (size c.args.m) ≡ true
+passed-1 c = lt-ltb c.args.c.g1 (size c.args.m) (omega arith)
+
+pub returns-then-q-wide : goal.returns-then-q-wide
+returns-then-q-wide c = simp (le-ltb c.args.c.g1 (size c.args.m) (omega arith))
+
+passed-2 : (c : goal.Else-q-wide-2) → ltb c.args.c.g2 (size c.args.m) ≡ true
+passed-2 c = lt-ltb c.args.c.g2 (size c.args.m) (omega arith)
+
+pub returns-then-q-wide-2 : goal.returns-then-q-wide-2
+returns-then-q-wide-2 c = simp (passed-1 c.before.before, le-ltb c.args.c.g2 (size c.args.m) (omega arith))
+
+passed-3 : (c : goal.Else-q-wide-3) → ltb c.args.c.g3 (size c.args.m) ≡ true
+passed-3 c = lt-ltb c.args.c.g3 (size c.args.m) (omega arith)
+
+pub returns-then-q-wide-3 : goal.returns-then-q-wide-3
+returns-then-q-wide-3 c = simp (passed-1 c.before.before.before.before, passed-2 c.before.before, le-ltb c.args.c.g3 (size c.args.m) (omega arith))
+
+passed-4 : (c : goal.Else-q-wide-4) → ltb c.args.c.g4 (size c.args.m) ≡ true
+passed-4 c = lt-ltb c.args.c.g4 (size c.args.m) (omega arith)
+
+pub returns-then-q-wide-4 : goal.returns-then-q-wide-4
+returns-then-q-wide-4 c = simp (passed-1 c.before.before.before.before.before.before, passed-2 c.before.before.before.before, passed-3 c.before.before, le-ltb c.args.c.g4 (size c.args.m) (omega arith))
+
+pub returns : goal.returns
+returns c = simp (passed-1 c.before.before.before.before.before.before.before, passed-2 c.before.before.before.before.before, passed-3 c.before.before.before, passed-4 c.before, c.wide-5.ensures, c.size-q.ensures, and-true)

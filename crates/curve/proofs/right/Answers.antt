@@ -1,0 +1,10 @@
+-- The calls in their order are Horner's rule.
+use borrow.Author.Rules.{rules}
+use Rattle.field.proofs.Galois.{galois_field}
+use Rattle.curve.proofs.Equation.{right_horner}
+use Rattle.curve.proofs.right.Goals as goal
+
+pub returns : goal.returns
+returns c =
+    rw (c.add-2.ensures, c.product-2.ensures, c.add-a.ensures, c.product.ensures, c.add.ensures)
+    (right_horner (galois_field c.requires.field) c.args.c c.args.x)

@@ -1,0 +1,19 @@
+-- A number that passes the test is a field's, and so its tables are.
+use mathlib.Core.Path.{sym, ◌∙◌}
+use borrow.Author.Tests.{not-false}
+use borrow.Author.Rules.{rules}
+use Rattle.field.specs.Galois.{IsField}
+use Rattle.field.proofs.Galois.{is_field_lem}
+use Rattle.elimination.proofs.coder.solution.Goals as goal
+
+field_number : (c : goal.Else-not-is_field) → IsField c.args.m
+field_number c = is_field_lem _ (sym c.is_field.ensures ∙ not-false _ c.if-not-is_field.false)
+
+pub powers-requires : goal.powers-requires
+powers-requires c = field_number c.before.before
+
+pub logarithms-requires : goal.logarithms-requires
+logarithms-requires c = field_number c.before.before.before.before
+
+pub solve-requires : goal.solve-requires
+solve-requires c = let n = field_number c.before.before.before.before.before.before.before in search rules

@@ -1,0 +1,23 @@
+use mathlib.Core.Path.{◌≡◌, refl, ◌∙◌}
+use Prim.Native.Nat.{◌≤◌, ◌-◌}
+use native.Mathlib.Omega.{arith}
+use lib.ListN.{length, get_or, length-set}
+use Rattle.basics.proofs.Loops.{filled, filled_turn, filled_front}
+use Rattle.engine.proofs.Laws.{table_take}
+use borrow.Author.Rules.{rules}
+use Rattle.engine.proofs.slices.copy.Goals as goal
+
+pub loop-i-init : goal.loop-i-init
+loop-i-init c = (omega arith, refl, refl)
+
+pub loop-i-preserved : goal.loop-i-preserved
+loop-i-preserved c =
+    (omega arith, simp length-set c.loop-i.invariant.1, filled_turn (λ k. get_or c.args.from.now k 0) c.args.out.now c.loop-i.i (omega arith) c.loop-i.invariant.2 refl)
+
+pub shape_of-out : goal.shape_of-out
+shape_of-out c = c.loop-i.invariant.1
+
+pub returns : goal.returns
+returns c =
+    let full : c.loop-i.i ≡ c.args.n = omega arith in
+    rw (c.loop-i.invariant.2, full) (filled_front (λ k. get_or c.args.from.now k 0) c.args.out.now c.args.n ∙ table_take c.args.from.now c.args.n c.requires.0)

@@ -1,0 +1,14 @@
+-- The loop's invariant: what is done, and what the rest is to become, is the product.
+use mathlib.Core.Path.{◌≡◌, refl, sym, ◌∙◌}
+use Prim.Native.Nat.{◌-◌}
+use native.Mathlib.Omega.{arith}
+use lib.ListN.{length, length-set}
+use borrow.Author.Rules.{rules}
+use Rattle.engine.proofs.Laws.{logged, by_logged, product_from, linear_start, linear_turn, linear_end}
+use Rattle.engine.proofs.slices.times_linear.Given as goal
+
+abbrev pub invariant-loop-i : goal.invariant-loop-i
+invariant-loop-i l = (length l.f ≡ length l.initial.f) × (product_from l.m l.alpha l.a l.b l.i l.f ≡ product_from l.m l.alpha l.initial.a l.initial.b l.initial.i l.initial.f)
+
+abbrev pub decreases-loop-i : goal.decreases-loop-i
+decreases-loop-i l = length l.initial.f - l.i

@@ -1,0 +1,9 @@
+-- No coefficient is passed, and the pair is zero.
+use mathlib.Core.Path.{refl}
+use Rattle.engine.proofs.Laws.{horner_start}
+use borrow.Author.Rules.{rules}
+use Rattle.evaluation.proofs.lanes.begin.Goals as goal
+
+pub returns : goal.returns
+returns c =
+    record { byte = c.ranges.x.fits; is_x = refl; is_log = c.logarithm.ensures; passed = horner_start c.args.m c.args.x c.args.f.now }

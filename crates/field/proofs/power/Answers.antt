@@ -1,0 +1,6 @@
+-- The table's entry.
+use borrow.Author.Rules.{rules}
+use Rattle.field.proofs.power.Goals as goal
+
+pub returns : goal.returns
+returns c = rw (c.requires.0, c.wide.ensures, c.wide-2.ensures)

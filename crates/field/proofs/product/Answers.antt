@@ -1,0 +1,13 @@
+-- The exponents add up.
+use borrow.Author.Rules.{rules}
+use mathlib.Core.Path.{◌∙◌}
+use Rattle.field.proofs.Lookup.{is_log, log_le, product_sum}
+use Rattle.field.proofs.product.Goals as goal
+
+pub power-requires : goal.power-requires
+power-requires c =
+    (c.requires.is_powers, rw c.logarithm.ensures (log_le c.requires.field (is_log c.requires.field c.args.a c.ranges.a.fits)), rw c.logarithm-2.ensures (log_le c.requires.field (is_log c.requires.field c.args.b c.ranges.b.fits)))
+
+pub returns : goal.returns
+returns c =
+    c.power.ensures ∙ rw (c.logarithm.ensures, c.logarithm-2.ensures) (product_sum c.requires.field c.args.a c.args.b c.ranges.a.fits c.ranges.b.fits)

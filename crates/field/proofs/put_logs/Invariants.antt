@@ -1,0 +1,18 @@
+-- The loop makes a logarithm of each byte of the row.
+use Prim.Native.Nat.{◌≤◌, ◌<◌, ◌-◌}
+use mathlib.Core.Path.{◌≡◌, sym, ap, ◌∙◌}
+use native.Mathlib.Omega.{arith}
+use borrow.Author.Rules.{rules}
+use native.Mathlib.Nat.{zero-add}
+use lib.ListN.{get_or}
+use lib.Seq.{paste, paste-zero}
+use Rattle.field.specs.Tables.{widened, log_table}
+use Rattle.field.proofs.Lookup.{length_logs, log_at_byte, wide_byte}
+use Rattle.field.proofs.Pastes.{paste_turn}
+use Rattle.field.proofs.put_logs.Given as goal
+
+abbrev pub invariant-loop-i : goal.invariant-loop-i
+invariant-loop-i l = (l.i ≤ 256) × (l.out ≡ paste l.initial.out 0 (log_table l.m) l.i)
+
+abbrev pub decreases-loop-i : goal.decreases-loop-i
+decreases-loop-i l = 256 - l.i

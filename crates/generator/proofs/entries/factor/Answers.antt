@@ -1,0 +1,9 @@
+-- The looked up logarithm stands for its number in every product.
+use mathlib.Core.Path.{refl}
+use Rattle.engine.proofs.Laws.{logged, by_logged}
+use borrow.Author.Rules.{rules}
+use Rattle.generator.proofs.entries.factor.Goals as goal
+
+pub returns : goal.returns
+returns c =
+    record { is_log = logged c.requires.0 c.ranges.a.fits c.logarithm.ensures; times = λ b. by_logged c.requires.0 c.ranges.a.fits c.logarithm.ensures b refl }

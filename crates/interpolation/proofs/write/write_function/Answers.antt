@@ -1,0 +1,12 @@
+-- The coefficients are copied, and zeros put behind them.
+use native.Mathlib.Omega.{arith}
+use Rattle.engine.proofs.Laws.{padded_as}
+use borrow.Author.Rules.{rules}
+use Rattle.interpolation.proofs.write.write_function.Goals as goal
+
+pub extend-requires : goal.extend-requires
+extend-requires c = omega (arith, c.copy.auto.out)
+
+pub returns : goal.returns
+returns c =
+    padded_as c.args.f.now c.copy.new.out c.extend.new.f c.args.n _ c.requires.0 c.copy.auto.out c.extend.auto.f c.copy.ensures c.extend.ensures

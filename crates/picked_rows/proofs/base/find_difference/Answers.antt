@@ -1,0 +1,28 @@
+-- The difference begins as the received word.
+use Prim.Native.Nat.{◌≤◌}
+use mathlib.Core.Path.{sym, ◌∙◌}
+use native.Mathlib.Omega.{arith}
+use lib.ListN.{length}
+use lib.Seq.{length-take-le}
+use Rattle.basics.proofs.Lists.{copied}
+use Rattle.solving.proofs.Link.{accepted}
+use Rattle.picked_rows.proofs.Difference.{given_works}
+use borrow.Author.Rules.{rules}
+use Rattle.picked_rows.proofs.base.find_difference.Goals as goal
+
+-- a row has at most 288 symbols
+few : (c : goal.Start) → length c.args.xs.now ≤ 288
+few c = (accepted (given_works c.requires.given.0).placed).n_most
+
+pub copy-requires : goal.copy-requires
+copy-requires c = (omega (arith, c.requires.given.0.size), omega (arith, c.requires.given.2))
+
+pub slice_bounds-row-end : goal.slice_bounds-row-end
+slice_bounds-row-end c = few c.before.before.before.before.before.before.before.before.before.before.before
+
+pub slice_bounds-add_rows-end : goal.slice_bounds-add_rows-end
+slice_bounds-add_rows-end c = sym (length-take-le _ _ (few c.before.before.before.before.before.before.before.before.before.before.before.before))
+
+pub add_rows-requires : goal.add_rows-requires
+add_rows-requires c =
+    record { tables = c.requires.tables; given = (c.requires.given.0, c.requires.given.1, length-take-le _ _ (few c.before.before.before.before.before.before.before.before.before.before.before.before.before), copied c.requires.given.0.size (c.copy.auto.out ∙ c.requires.given.2) c.copy.ensures) }

@@ -1,0 +1,15 @@
+-- The loop's invariant: the sums are what the first i rows leave of 1.
+use Prim.{tt}
+use mathlib.Core.Path.{◌≡◌, sym, ◌∙◌, ap}
+use Prim.Native.Nat.{◌-◌, ◌≤◌}
+use native.Mathlib.Omega.{arith}
+use lib.ListN.{length, replicate}
+use Rattle.generator.proofs.Turns.{slots_of}
+use Rattle.picked_rows.proofs.Rows.{LeftBy, left_none, left_turn}
+use Rattle.picked_rows.proofs.sums.sum_rows.Given as goal
+
+abbrev pub invariant-loop-i : goal.invariant-loop-i
+invariant-loop-i l = (l.i ≤ l.k) × (length l.sums ≡ length l.px) × (length l.row ≡ length l.px) × LeftBy l.m l.k l.px l.l l.u l.a l.b l.sums l.i
+
+abbrev pub decreases-loop-i : goal.decreases-loop-i
+decreases-loop-i l = l.k - l.i

@@ -1,0 +1,29 @@
+-- The arrays of the working space are what the rows are made of.
+use mathlib.Core.Path.{sym}
+use Prim.Native.Nat.{◌≤◌}
+use native.Mathlib.Omega.{arith}
+use lib.ListN.{length}
+use lib.Seq.{length-take-le}
+use Rattle.codewords.specs.Code.{Code, code_of}
+use Rattle.picked_rows.proofs.Rows.{held, held_ready, left_held, ready_lows, ready_highs, ready_slots}
+use borrow.Author.Rules.{rules}
+use Rattle.picked_rows.proofs.sums.sum_stored.Goals as goal
+
+abbrev code : goal.Start → Code
+code c = code_of c.args.p c.args.xs.now c.args.ys.now
+
+-- there is a byte for each point
+fits : (c : goal.Start) → length c.args.xs.now ≤ length c.args.work.now
+fits c = omega (arith, c.requires.ys_value.1.room)
+
+pub slice_bounds-sum_rows-end : goal.slice_bounds-sum_rows-end
+slice_bounds-sum_rows-end c = sym (length-take-le _ _ (fits c.before.before.before.before.before.before))
+
+pub sum_rows-requires : goal.sum_rows-requires
+sum_rows-requires c =
+    let ready = held_ready (code c.before.before.before.before.before.before.before.before.before.before.before.before) (held (length c.args.xs.now) c.args.work.now) c.requires.ys_value.1 in
+    record { tables = c.requires.tables; slots = (ready_slots ready c.requires.ys_value.0 c.requires.ys_value.2 c.requires.ys_value.3, ready_lows ready, ready_highs ready) }
+
+pub returns : goal.returns
+returns c =
+    left_held (code c.before.before.before.before.before.before.before.before.before.before.before.before.before.before.before.before.before) (held (length c.args.xs.now) c.args.work.now) c.sum_rows.new.sums c.sum_rows.ensures

@@ -1,0 +1,21 @@
+-- Each callee fills its part of the buffer.
+use Prim.Native.Nat.{ℕ}
+use mathlib.Core.Path.{sym, ◌∙◌}
+use native.Mathlib.Omega.{arith}
+use borrow.Author.Rules.{rules}
+use lib.ListN.{length-map}
+use lib.Seq.{length-take-le}
+use Rattle.rolling.proofs.InBytes.{state_stored}
+use Rattle.rolling.proofs.bytes.store.Goals as goal
+
+pub slice_bounds-store_codes-end-2 : goal.slice_bounds-store_codes-end-2
+slice_bounds-store_codes-end-2 c = sym (length-take-le 48 c.args.out.now (omega arith))
+
+pub store_codes-requires : goal.store_codes-requires
+store_codes-requires c =
+    (sym (length-map {A = ℕ} {B = ℕ} c.args.state.codes (λ v. v)) ∙ c.well-formed.0.1.1.0.1.0.1, length-take-le 48 c.args.out.now (omega arith))
+
+pub returns : goal.returns
+returns c =
+    state_stored c.args.state c.args.out.now _ _ _ c.requires c.store_codes.auto.out
+    c.store_codes.ensures c.store_number.ensures c.store_number-2.ensures

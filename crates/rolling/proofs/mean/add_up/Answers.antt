@@ -1,0 +1,28 @@
+use Prim.Native.Nat.{ℕ, ◌+◌, ◌*◌, ◌-◌, ◌≤◌}
+use mathlib.Core.Path.{refl}
+use native.Mathlib.Omega.{arith}
+use borrow.Author.Rules.{rules}
+use lib.ListN.{length}
+use Rattle.rolling.proofs.Totals.{Added, none_added, one_added, all_added, added_small}
+use Rattle.rolling.proofs.mean.add_up.Goals as goal
+
+-- a turn: the code at i is in the count and the sum
+pub loop-i-init : goal.loop-i-init
+loop-i-init c = none_added _
+
+pub overflow_add-count : goal.overflow_add-count
+overflow_add-count c =
+    let new = one_added _ c.loop-i.invariant c.loop-i-test.true c.presence-one.ensures refl in
+    omega (arith, (added_small _ new c.requires.0 c.requires.1).0)
+
+pub overflow_mul-sum : goal.overflow_mul-sum
+overflow_mul-sum c = omega (arith, sum_small c)
+
+pub overflow_add-sum : goal.overflow_add-sum
+overflow_add-sum c = omega (arith, sum_small c)
+
+pub loop-i-preserved : goal.loop-i-preserved
+loop-i-preserved c = turned c
+
+pub returns : goal.returns
+returns c = all_added _ c.loop-i.invariant c.loop-i-test.false

@@ -1,0 +1,16 @@
+-- The loop's invariant: what the codes passed say, and the rest.
+use Prim.Native.Nat.{◌+◌, ◌-◌}
+use mathlib.Core.Path.{◌≡◌, refl, sym, ◌∙◌}
+use mathlib.Core.Bool.{◌&&◌, and-true, and_assoc}
+use borrow.Author.Rules.{rules}
+use lib.ListN.{length, get_or, drop, drop_of_length-le}
+use Rattle.basics.specs.Lists.{all}
+use Rattle.basics.proofs.Loops.{next}
+use Rattle.hours.specs.Packing.{is_code}
+use Rattle.rolling.proofs.state.all_codes.Given as goal
+
+abbrev pub invariant-loop-i : goal.invariant-loop-i
+invariant-loop-i l = (l.good && all is_code (drop l.i l.codes)) ≡ all is_code l.codes
+
+abbrev pub decreases-loop-i : goal.decreases-loop-i
+decreases-loop-i l = length l.codes - l.i

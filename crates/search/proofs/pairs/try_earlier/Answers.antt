@@ -1,0 +1,57 @@
+use Prim.Native.Nat.{◌-◌, ◌≤◌}
+use mathlib.Core.Path.{◌≡◌, refl, ◌∙◌}
+use mathlib.Core.Logic.{⊎_elim}
+use native.Mathlib.Omega.{arith}
+use lib.ListN.{length}
+use Rattle.field.specs.Galois.{size}
+use Rattle.field.proofs.Galois.{size_le, size_ge}
+use Rattle.codewords.specs.Code.{code_of}
+use Rattle.patterns.specs.Patterns.{down, pair}
+use Rattle.search.proofs.Running.{Going, going_start}
+use Rattle.search.proofs.Loops.{going_down, going_over, runs_over}
+use Rattle.search.proofs.Pairing.{earlier, less_pair, square_few}
+use Rattle.search.proofs.pairs.try_earlier.Goals as goal
+
+size_of : (c : goal.After-size-some) → c.size-some.result ≡ size c.args.p.field
+size_of c = c.size-some.ensures
+
+pub size-some-requires : goal.size-some-requires
+size-some-requires c = c.requires.tables.field
+
+pub overflow_sub-some : goal.overflow_sub-some
+overflow_sub-some c = omega (arith, size_of c, size_ge c.requires.tables.field)
+
+pub loop-i-init : goal.loop-i-init
+loop-i-init c = (omega arith, refl, going_start (down c.args.late.0) c.requires.prepared.1)
+
+pub overflow_sub-i : goal.overflow_sub-i
+overflow_sub-i c = omega (arith, c.loop-i-test.true)
+
+pub try_pair-best-requires : goal.try_pair-best-requires
+try_pair-best-requires c =
+    record { tables = c.requires.tables; prepared = (c.requires.prepared.0, c.loop-i.invariant.2.is_try, c.requires.prepared.2, c.loop-i.invariant.1 ∙ c.requires.prepared.3, c.requires.prepared.4, omega (arith, c.loop-i-test.true, c.loop-i.invariant.0)) }
+
+pub overflow_mul-some : goal.overflow_mul-some
+overflow_mul-some c =
+    record { fits = omega (arith, square_few c.size-some.result (omega (arith, size_of c.before.before.before, size_le c.requires.tables.field))) }
+
+pub less-rest-requires : goal.less-rest-requires
+less-rest-requires c = tt
+
+pub loop-i-smaller : goal.loop-i-smaller
+loop-i-smaller c = omega (arith, c.loop-i-test.true)
+
+pub loop-i-preserved : goal.loop-i-preserved
+loop-i-preserved c =
+    (
+      omega (arith, c.loop-i.invariant.0),
+      ⊎_elim (λ w. rw w.5 (w.2.kept.1.1.1.1.1.1.1.1.1.1.0 ∙ c.loop-i.invariant.1)) (λ w. rw w.1 c.loop-i.invariant.1) c.if-rest-gt0.branch,
+      going_down c.loop-i.i c.loop-i-test.true (less_pair c.loop-i.rest (size c.args.p.field) c.args.p.k c.args.late.0 (size_of c.before.before.before.before) (c.loop-i.i - 1) c.less-rest.ensures)
+          (⊎_elim (λ w. rw w.6 w.2.ensures) (λ w. rw w.2 (runs_over c.loop-i.rest _ w.0.left c.loop-i.invariant.2.is_try)) c.if-rest-gt0.branch) c.loop-i.invariant.2,
+    )
+
+pub shape_of-early_row : goal.shape_of-early_row
+shape_of-early_row c = c.loop-i.invariant.1
+
+pub returns : goal.returns
+returns c = going_over c.loop-i.i c.loop-i-test.false c.loop-i.invariant.2

@@ -1,0 +1,15 @@
+-- The loop's invariant: the sum so far, with what is left, is the whole.
+use Prim.Native.Nat.{◌+◌, ◌*◌, ◌-◌, ◌<◌, ◌≤◌}
+use mathlib.Core.Path.{◌≡◌}
+use mathlib.Core.Logic.{⊎_elim}
+use native.Mathlib.Omega.{arith}
+use lib.ListN.{length, get_or, drop}
+use Rattle.patterns.specs.Cheapest.{weigh}
+use Rattle.search.proofs.Loops.{weigh_more, weigh_same, weigh_over}
+use Rattle.search.proofs.run.total.Given as goal
+
+abbrev pub invariant-loop-i : goal.invariant-loop-i
+invariant-loop-i l = (l.i ≤ length l.trusts) × (l.sum ≤ 255 * l.i) × (l.sum + weigh (drop l.i l.trusts) (drop l.i l.difference) ≡ weigh l.trusts l.difference)
+
+abbrev pub decreases-loop-i : goal.decreases-loop-i
+decreases-loop-i l = length l.trusts - l.i

@@ -1,0 +1,31 @@
+-- The tests of the lists, and then what is solved for.
+use mathlib.Core.Path.{◌≡◌, sym, ◌∙◌}
+use mathlib.Core.Logic.{⊎_elim}
+use native.Mathlib.Omega.{arith}
+use borrow.Author.Tests.{not-true, not-false}
+use Rattle.basics.specs.declared.Answer.TheVariants.{Done}
+use Rattle.codewords.specs.Code.{code_of}
+use Rattle.solving.specs.Tests.{lists_answer}
+use Rattle.solving.proofs.Chains.{posed, prepared_not, prepared_done, prepared_stop}
+use borrow.Author.Rules.{rules}
+use Rattle.solving.proofs.prepare_word.prepare_word.Goals as goal
+
+pub test_lists-tested-requires : goal.test_lists-tested-requires
+test_lists-tested-requires c = c.requires.ys_value
+
+-- the tests were passed
+passed : (c : goal.In-Done) → lists_answer (code_of c.args.p c.args.xs.now c.args.ys.now) c.args.places.now c.args.symbols.now ≡ Done
+passed c = sym c.test_lists-tested.ensures ∙ c.in-Done.is
+
+pub solve_word-requires : goal.solve_word-requires
+solve_word-requires c =
+    record { tables = c.requires.tables; posed = (posed _ _ _ (passed c.before) c.requires.ys_value c.requires.symbols_len.0, c.requires.symbols_len.1) }
+
+pub returns-then-not-solve_word : goal.returns-then-not-solve_word
+returns-then-not-solve_word c = prepared_not _ _ _ (passed c.before.before.before.before.before) c.solve_word.ensures (not-true _ c.if-not-solve_word.true)
+
+pub returns-in-Done : goal.returns-in-Done
+returns-in-Done c = prepared_done _ _ _ (passed c.before.before.before.before.before) c.solve_word.ensures (not-false _ c.if-not-solve_word.false)
+
+pub returns : goal.returns
+returns c = prepared_stop _ _ _ c.test_lists-tested.ensures (λ d. ⊎_elim (λ e. omega (arith, e)) (λ e. omega (arith, e)) (rw d at c.in_default.in_default-own.keys2))

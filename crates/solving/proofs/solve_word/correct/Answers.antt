@@ -1,0 +1,10 @@
+-- The sum with the multiple that the quotient is.
+use mathlib.Core.Path.{◌∙◌, ap}
+use Rattle.field.specs.Galois.{galois}
+use Rattle.elliptic.specs.Pair.{add_scaled}
+use borrow.Author.Rules.{rules}
+use Rattle.solving.proofs.solve_word.correct.Goals as goal
+
+pub returns : goal.returns
+returns c =
+    c.add_scaled.ensures ∙ ap (λ t. add_scaled (galois c.args.m) t c.args.l.now c.args.f.now) c.quotient-e.ensures

@@ -1,0 +1,44 @@
+-- The tests of places, and then test after test in the order of their numbers.
+use Prim.{tt}
+use mathlib.Core.Path.{◌≡◌, refl, sym, ◌∙◌, ap}
+use mathlib.Core.Logic.{⊎_elim}
+use native.Mathlib.Omega.{arith}
+use borrow.Author.Tests.{not-true, not-false, le-leb, lt-leb}
+use lib.ListN.{length}
+use Rattle.basics.specs.declared.Answer.TheVariants.{Done}
+use Rattle.basics.specs.Lists.{all}
+use Rattle.basics.proofs.Outcomes.{pass, refuse, accept}
+use Rattle.code.specs.Lists.{is_below}
+use Rattle.codewords.specs.Code.{code_of}
+use Rattle.codewords.specs.Codewords.{symbols}
+use Rattle.codewords.proofs.Accepted.{accepted_done}
+use Rattle.solving.specs.Tests.{places_answer}
+use Rattle.solving.proofs.Chains.{places_go, places_stop}
+use borrow.Author.Rules.{rules}
+use Rattle.solving.proofs.tests.test_lists.Goals as goal
+
+pub test_places-tested-requires : goal.test_places-tested-requires
+test_places-tested-requires c = (accepted_done _ c.requires).n_most
+
+-- what the tests say that were passed
+passed : (c : goal.In-Done) → places_answer (length c.args.xs.now) c.args.places.now ≡ Done
+passed c = sym c.test_places-tested.ensures ∙ c.in-Done.is
+
+says : (c : goal.After-all_below) → symbols (code_of c.args.p c.args.xs.now c.args.ys.now) c.args.symbols.now ≡ c.all_below.result
+unfolding symbols
+says c = ap (λ q. all (is_below q) c.args.symbols.now) (sym c.size.ensures) ∙ sym c.all_below.ensures
+
+pub size-requires : goal.size-requires
+size-requires c = (accepted_done _ c.requires).field
+
+pub returns-then-not-all_below : goal.returns-then-not-all_below
+returns-then-not-all_below c = (places_go _ _ (passed c.before.before.before) _ {old = tt} {new = tt} (refuse _ (says c.before ∙ not-true _ c.if-not-all_below.true))).answers
+
+pub returns-then-places-p : goal.returns-then-places-p
+returns-then-places-p c = (places_go _ _ (passed c.before.before.before.before.before) _ {old = tt} {new = tt} (pass _ (says c.before.before.before ∙ not-false _ c.if-not-all_below.false) (refuse _ (lt-leb _ _ c.if-places-p.true)))).answers
+
+pub returns-in-Done : goal.returns-in-Done
+returns-in-Done c = (places_go _ _ (passed c.before.before.before.before.before) _ {old = tt} {new = tt} (pass _ (says c.before.before.before ∙ not-false _ c.if-not-all_below.false) (pass _ (le-leb _ _ c.if-places-p.false) (accept refl)))).answers
+
+pub returns : goal.returns
+returns c = (places_stop _ _ {old = tt} _ c.test_places-tested.ensures (λ d. ⊎_elim (λ e. omega (arith, e)) (λ e. omega (arith, e)) (rw d at c.in_default.in_default-own.keys2))).answers

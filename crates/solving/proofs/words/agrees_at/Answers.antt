@@ -1,0 +1,48 @@
+use Prim.Native.Nat.{ℕ, ◌-◌, ◌<◌}
+use mathlib.Core.Path.{◌≡◌, refl, sym, ◌∙◌, ap}
+use mathlib.Core.List.{List, map}
+use native.Mathlib.Omega.{arith}
+use lib.ListN.{length, get_or, drop, length-map}
+use Rattle.basics.specs.Lists.{same}
+use Rattle.basics.proofs.Lists.{get_or_map_in}
+use Rattle.basics.proofs.Loops.{same_fails, same_passes, same_ends}
+use Rattle.codewords.specs.Codewords.{symbol_at, agrees}
+use Rattle.solving.proofs.Link.{place_at_lem}
+use borrow.Author.Rules.{rules}
+use Rattle.solving.proofs.words.agrees_at.Goals as goal
+
+-- the symbol at a place, and what is read at its index
+abbrev symbol : List ℕ → ℕ → ℕ
+symbol f p = get_or f (p - 1) 0
+
+read : (f places : List ℕ) (i : ℕ) {p j : ℕ} → i < length places → p ≡ get_or places i 0 → j ≡ p - 1 → get_or (map (symbol f) places) i 0 ≡ get_or f j 0
+read f places i h e₁ e₂ = get_or_map_in (symbol f) places i 0 0 h ∙ ap (symbol f) (sym e₁) ∙ ap (λ j. get_or f j 0) (sym e₂)
+
+pub loop-i-init : goal.loop-i-init
+unfolding agrees symbol_at
+loop-i-init c = refl
+
+pub index_of-requires : goal.index_of-requires
+index_of-requires c =
+    omega (arith, c.chosen_place-place.ensures, (place_at_lem (length c.args.f.now) c.args.places.now c.requires.0 c.loop-i.i c.loop-i-test.true).0)
+
+pub bounds-f-index_of : goal.bounds-f-index_of
+bounds-f-index_of c =
+    omega (arith, c.index_of.ensures, c.chosen_place-place.ensures, (place_at_lem (length c.args.f.now) c.args.places.now c.requires.0 c.loop-i.i c.loop-i-test.true).1)
+
+pub message_symbol-requires : goal.message_symbol-requires
+message_symbol-requires c = omega (arith, c.loop-i-test.true, c.requires.1)
+
+pub returns-then-f-index_of : goal.returns-then-f-index_of
+returns-then-f-index_of c =
+    same_fails (map (symbol c.args.f.now) c.args.places.now) c.args.symbols.now c.loop-i.i c.loop-i.invariant (rw (length-map c.args.places.now (symbol c.args.f.now)) c.loop-i-test.true) (omega (arith, c.loop-i-test.true, c.requires.1))
+    (λ e. c.if-f-index_of.true (sym (read c.args.f.now c.args.places.now c.loop-i.i c.loop-i-test.true c.chosen_place-place.ensures c.index_of.ensures) ∙ e ∙ sym c.message_symbol.ensures))
+
+pub loop-i-preserved : goal.loop-i-preserved
+loop-i-preserved c =
+    same_passes (map (symbol c.args.f.now) c.args.places.now) c.args.symbols.now c.loop-i.i c.loop-i.invariant (rw (length-map c.args.places.now (symbol c.args.f.now)) c.loop-i-test.true) (omega (arith, c.loop-i-test.true, c.requires.1))
+    (read c.args.f.now c.args.places.now c.loop-i.i c.loop-i-test.true c.chosen_place-place.ensures c.index_of.ensures ∙ c.if-f-index_of.false ∙ c.message_symbol.ensures)
+
+pub returns : goal.returns
+returns c =
+    same_ends (map (symbol c.args.f.now) c.args.places.now) c.args.symbols.now c.loop-i.i c.loop-i.invariant (rw (length-map c.args.places.now (symbol c.args.f.now)) c.loop-i-test.false) (omega (arith, c.loop-i-test.false, c.requires.1))

@@ -1,0 +1,19 @@
+-- The loop's invariant: the first i agree, so the rest decides.
+use Prim.Native.Nat.{ℕ, ◌-◌, ◌<◌}
+use mathlib.Core.Path.{◌≡◌, refl, sym, ◌∙◌, ap}
+use mathlib.Core.List.{List, map}
+use native.Mathlib.Omega.{arith}
+use lib.ListN.{length, get_or, drop, length-map}
+use Rattle.basics.specs.Lists.{same}
+use Rattle.basics.proofs.Lists.{get_or_map_in}
+use Rattle.basics.proofs.Loops.{same_fails, same_passes, same_ends}
+use Rattle.codewords.specs.Codewords.{symbol_at, agrees}
+use Rattle.solving.proofs.Link.{place_at_lem}
+use borrow.Author.Rules.{rules}
+use Rattle.solving.proofs.words.agrees_at.Given as goal
+
+abbrev pub invariant-loop-i : goal.invariant-loop-i
+invariant-loop-i l = same (drop l.i (map (symbol l.f) l.places)) (drop l.i l.symbols) ≡ agrees l.f l.places l.symbols
+
+abbrev pub decreases-loop-i : goal.decreases-loop-i
+decreases-loop-i l = length l.places - l.i

@@ -1,0 +1,16 @@
+-- The loop's invariant: what is left of the key decides.
+use Prim.Native.Nat.{◌-◌}
+use mathlib.Core.Path.{◌≡◌, refl, sym, ◌∙◌}
+use native.Mathlib.Omega.{arith}
+use borrow.Author.Tests.{not-true, not-false}
+use lib.ListN.{length, drop}
+use Rattle.text.specs.Reading.{stripped}
+use Rattle.text.proofs.Texts.{key_fails, key_turn, key_ends, next_there}
+use borrow.Author.Rules.{rules}
+use Rattle.text.proofs.reading.after_key.Given as goal
+
+abbrev pub invariant-loop-i : goal.invariant-loop-i
+invariant-loop-i l = stripped (drop l.i l.key) (drop l.at l.s) ≡ stripped l.key (drop l.start l.s)
+
+abbrev pub decreases-loop-i : goal.decreases-loop-i
+decreases-loop-i l = length l.key - l.i

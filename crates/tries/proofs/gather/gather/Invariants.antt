@@ -1,0 +1,14 @@
+-- The loop's invariant: what is done, and what the rest adds, is all.
+use Prim.Native.Nat.{◌-◌, ◌<◌, ◌≤◌}
+use native.Mathlib.Omega.{arith}
+use lib.Bits.{bit_xor}
+use lib.ListN.{length, get_or}
+use Rattle.field.specs.Galois.{galois}
+use Rattle.tries.proofs.Gathering.{Passing, pass_start, pass_room, pass_end, pass_turn, always_le}
+use Rattle.tries.proofs.gather.gather.Given as goal
+
+abbrev pub invariant-loop-i : goal.invariant-loop-i
+invariant-loop-i l = (l.i ≤ length l.trusts) × Passing l.m l.half l.log l.trusts l.row l.late l.difference l.i l.cost l.slots
+
+abbrev pub decreases-loop-i : goal.decreases-loop-i
+decreases-loop-i l = length l.trusts - l.i

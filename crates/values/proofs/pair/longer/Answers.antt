@@ -1,0 +1,10 @@
+-- By cases.
+use native.Mathlib.Omega.{arith}
+use borrow.Author.Tests.{lt-ltb, le-ltb}
+use Rattle.values.proofs.pair.longer.Goals as goal
+
+pub returns-then-b-a : goal.returns-then-b-a
+returns-then-b-a c = rw (lt-ltb c.args.b c.args.a c.if-b-a.true)
+
+pub returns-else-b-a : goal.returns-else-b-a
+returns-else-b-a c = rw (le-ltb c.args.b c.args.a (omega arith))

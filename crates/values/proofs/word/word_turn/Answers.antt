@@ -1,0 +1,10 @@
+-- The arrays are handed on in the order L, U.
+use Rattle.values.proofs.Steps.{words_round}
+use borrow.Author.Rules.{rules}
+use Rattle.values.proofs.word.word_turn.Goals as goal
+
+pub returns-then-turned : goal.returns-then-turned
+returns-then-turned c = rw c.if-turned.true (words_round c.swapped.ensures c.word_step.ensures)
+
+pub returns : goal.returns
+returns c = rw c.if-turned.false c.word_step-2.ensures
