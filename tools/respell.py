@@ -128,10 +128,13 @@ def renaming(names, types):
     return new
 
 
-def turn(text, new, fields, dotted=True):
+def turn(text, new, fields):
     out, last = [], 0
+    spans = list(library_lines(text))
     for m in TOKEN.finditer(text):
         word = m.group(0)
+        if any(a <= m.start() < b for a, b in spans):
+            continue
         if word.startswith(("--", '"', "«")) or word not in new:
             continue
         after_dot = m.start() > 0 and text[m.start() - 1] == "."
@@ -158,8 +161,17 @@ def of_the_library(text):
         parts = m.group(1).split(".")
         if parts[0] == "Rattle" and len(parts) > 1 and parts[1] in crates:
             continue
-        found |= {w.strip().split(" as ")[0] for w in m.group(2).split(",")}
+        found |= {w.strip().split(" as ")[-1] for w in m.group(2).split(",")}
     return found
+
+
+def library_lines(text):
+    """The spans of the imports from the library, in which nothing is renamed."""
+    crates = {p.split("/")[1] for p in glob.glob("crates/*/src")}
+    for m in USE.finditer(text):
+        parts = m.group(1).split(".")
+        if parts[0] != "Rattle" or len(parts) < 2 or parts[1] not in crates:
+            yield m.start(), m.end()
 
 
 def without(new, text):

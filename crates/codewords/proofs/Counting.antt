@@ -3,7 +3,7 @@ use Prim.Native.Nat.{ℕ, suc, ◌+◌, ◌≤◌, zero-le}
 use mathlib.Core.Path.{◌≡◌, refl, sym, ◌∙◌, ap}
 use mathlib.Core.Bool.{Bool, true, false, not, cond}
 use mathlib.Core.Logic.{◌⊎◌, inl, inr}
-use mathlib.Core.List.Memᴰ.{append_cases as in_append}
+use mathlib.Core.List.Memᴰ.{append_cases as in-append}
 use mathlib.Core.List.Memᴰ.{cases_cons}
 use mathlib.Core.List.Memᴰ.{head as here}
 use mathlib.Core.List.Memᴰ.{of_map as map-in}
@@ -31,7 +31,7 @@ module _ {A : Type 0} where
   unique_append none v n = v
   unique_append {m = m} (add {a} {l} h u) v n =
       add
-      (all_in_lem (l ++ m) (λ b i e. apart b e (in_append l i)))
+      (all_in_lem (l ++ m) (λ b i e. apart b e (in-append l i)))
       (unique_append u v (λ b i j. n b (there i) j))
     where
       apart : (b : A) → a ≡ b → In b l ⊎ In b m → ⊥

@@ -2,7 +2,7 @@
 use Prim.Native.Nat.{ℕ, zero, suc, ◌<◌}
 use mathlib.Core.Path.{◌≡◌, refl, sym, ◌∙◌, ap, subst}
 use mathlib.Core.Logic.{◌⊎◌, inl, inr}
-use mathlib.Core.List.Memᴰ.{append_cases as in_append}
+use mathlib.Core.List.Memᴰ.{append_cases as in-append}
 use mathlib.Core.List.Memᴰ.{append_left as in_append_left}
 use mathlib.Core.List.Memᴰ.{append_right as in_append_right}
 use mathlib.Core.List.Memᴰ.{eq_of_singleton as in_one}
@@ -29,7 +29,7 @@ in_below (suc q) a h = by (ℕ_discrete a q) (in_below q a)
 
 pub below_in : (q : ℕ) {a : ℕ} → In a (below q) → a < q
 below_in zero i = elim i [ ]
-below_in (suc q) {a} i = by (below_in q) (in_append (below q) i)
+below_in (suc q) {a} i = by (below_in q) (in-append (below q) i)
   where
     by : (In a (below q) → a < q) → In a (below q) ⊎ In a (q ∷ []) → a < suc q
     by r (inl i) = omega (arith, r i)
@@ -56,7 +56,7 @@ record Extended (symbols : List ℕ) (ls : List (List ℕ)) (l : List ℕ) : Typ
 extended_in : {l : List ℕ} (symbols : List ℕ) (ls : List (List ℕ)) → In l (extended symbols ls) → Extended symbols ls l
 unfolding extended
 extended_in [] ls i = elim i [ ]
-extended_in {l} (b ∷ symbols) ls i = by (extended_in symbols ls) (in_append (map (λ m. b ∷ m) ls) i)
+extended_in {l} (b ∷ symbols) ls i = by (extended_in symbols ls) (in-append (map (λ m. b ∷ m) ls) i)
   where
     by : (In l (extended symbols ls) → Extended symbols ls l) → In l (map (λ m. b ∷ m) ls) ⊎ In l (extended symbols ls) → Extended (b ∷ symbols) ls l
     by r (inl i) = let (m, j, e) = map-in (λ m. b ∷ m) ls i in record { a = b; m = m; head_in = here refl; tail_in = j; is = sym e }

@@ -2,7 +2,7 @@
 use Prim.Native.Nat.{ℕ, zero, suc, ◌-◌, ◌<◌}
 use mathlib.Core.Path.{◌≡◌, refl, sym, ◌∙◌, ap, ap₂, subst}
 use mathlib.Core.Logic.{◌⊎◌, inl, inr}
-use mathlib.Core.List.Memᴰ.{append_cases as in_append}
+use mathlib.Core.List.Memᴰ.{append_cases as in-append}
 use mathlib.Core.List.Memᴰ.{head as here}
 use mathlib.Core.List.Memᴰ.{of_map as map-in}
 use mathlib.Core.List.Memᴰ.{tail as there}
@@ -165,7 +165,7 @@ module _ (q k : ℕ) where
   pub unique_patterns : Unique (patterns q k)
   unfolding patterns
   unique_patterns =
-      add {a = unchanged k} (all_in_lem (singles q k ++ pairs q k) (λ c i e. by c e (in_append (singles q k) i)))
+      add {a = unchanged k} (all_in_lem (singles q k ++ pairs q k) (λ c i e. by c e (in-append (singles q k) i)))
       (unique_append unique_singles unique_pairs (λ c i j. omega (arith, in_all i (singles_one q k), in_all j (pairs_two q k))))
     where
       by : (c : List ℕ) → unchanged k ≡ c → In c (singles q k) ⊎ In c (pairs q k) → ⊥

@@ -2,7 +2,7 @@
 use Prim.Native.Nat.{ℕ, zero, suc, ◌+◌, ◌*◌, ◌-◌, ◌/◌, ◌<◌, ◌≤◌}
 use mathlib.Core.Path.{◌≡◌, refl, sym, ◌∙◌, ap, ap₂, subst}
 use mathlib.Core.Logic.{◌⊎◌, inl, inr}
-use mathlib.Core.List.Memᴰ.{append_cases as in_append}
+use mathlib.Core.List.Memᴰ.{append_cases as in-append}
 use mathlib.Core.List.Memᴰ.{append_left as in_append_left}
 use mathlib.Core.List.Memᴰ.{append_right as in_append_right}
 use mathlib.Core.List.Memᴰ.{cases_cons}
@@ -30,7 +30,7 @@ module _ {A B : Type 0} where
 
   pub each_in : (f : A → List B) {b : B} (l : List A) → In b (each l f) → (a : A) × In a l × In b (f a)
   each_in f [] i = elim i [ ]
-  each_in f {b} (c ∷ l) i = by (each_in f l) (in_append (f c) i)
+  each_in f {b} (c ∷ l) i = by (each_in f l) (in-append (f c) i)
     where
       by : (In b (each l f) → (a : A) × In a l × In b (f a)) → In b (f c) ⊎ In b (each l f) → (a : A) × In a (c ∷ l) × In b (f a)
       by r (inl j) = (c, here refl, j)

@@ -3,7 +3,7 @@ use Prim.Native.Nat.{ℕ, suc, ◌+◌, ◌*◌, ◌-◌, ◌/◌, ◌%◌, ◌<
 use mathlib.Core.Path.{◌≡◌, refl, sym, ◌∙◌, ap, subst}
 use mathlib.Core.Bool.{not}
 use mathlib.Core.Logic.{◌⊎◌, inl, inr}
-use mathlib.Core.List.Memᴰ.{append_cases as in_append}
+use mathlib.Core.List.Memᴰ.{append_cases as in-append}
 use mathlib.Core.List.Memᴰ.{append_left as in_append_left}
 use mathlib.Core.List.Memᴰ.{append_right as in_append_right}
 use mathlib.Core.List.Memᴰ.{head as here}
@@ -198,7 +198,7 @@ module _ (q k : ℕ) (large : 1 < q) (ts : List ℕ) (size : length ts ≡ k) (f
 
   bound_attained : {b : ℕ} → In b bounds → Attained b
   unfolding least_left
-  bound_attained {b} i = by (in_append (single_left ts k places_done) i)
+  bound_attained {b} i = by (in-append (single_left ts k places_done) i)
     where
       rest : In b (pair_left ts k pairs_done) ⊎ In b (triple_left ts k) → Attained b
       rest (inl j) = pair_attained j
@@ -206,7 +206,7 @@ module _ (q k : ℕ) (large : 1 < q) (ts : List ℕ) (size : length ts ≡ k) (f
 
       by : In b (single_left ts k places_done) ⊎ In b (pair_left ts k pairs_done ++ triple_left ts k) → Attained b
       by (inl j) = single_attained j
-      by (inr j) = rest (in_append (pair_left ts k pairs_done) j)
+      by (inr j) = rest (in-append (pair_left ts k pairs_done) j)
 
   -- ---- together
 

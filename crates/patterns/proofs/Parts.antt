@@ -2,7 +2,7 @@
 use Prim.Native.Nat.{ℕ, zero, suc, ◌+◌, ◌*◌, ◌-◌, ◌<◌, ◌≤◌}
 use mathlib.Core.Path.{◌≡◌, refl, sym, ◌∙◌, ap, subst}
 use mathlib.Core.Logic.{◌⊎◌, inl, inr}
-use mathlib.Core.List.Memᴰ.{append_cases as in_append}
+use mathlib.Core.List.Memᴰ.{append_cases as in-append}
 use mathlib.Core.List.Memᴰ.{append_left as in_append_left}
 use mathlib.Core.List.Memᴰ.{append_right as in_append_right}
 use mathlib.Core.List.Memᴰ.{head as here}
@@ -46,7 +46,7 @@ module _ {A : Type 0} where
   all_take (suc n) (cons h hs) = cons h (all_take n hs)
 
   pub take_or_drop : {a : A} (n : ℕ) (l : List A) → In a l → In a (take n l) ⊎ In a (drop n l)
-  take_or_drop {a} n l i = in_append (take n l) (subst (λ l. In a l) (sym (take-append-drop n l)) i)
+  take_or_drop {a} n l i = in-append (take n l) (subst (λ l. In a l) (sym (take-append-drop n l)) i)
 
   pub take_in : {a : A} (n : ℕ) (l : List A) → In a (take n l) → In a l
   take_in {a} n l i = subst (λ l. In a l) (take-append-drop n l) (in_append_left (drop n l) i)
@@ -85,7 +85,7 @@ module _ {A : Type 0} where
   -- the others of an append: those of the first list, or of the second
   pub drop_append : {a : A} (n : ℕ) (l r : List A) → In a (drop n (l ++ r)) → In a (drop n l) ⊎ In a (drop (n - length l) r)
   drop_append {a} n [] r i = let e : n - 0 ≡ n = omega arith in inr (subst (λ m. In a (drop m r)) (sym e) i)
-  drop_append {a} zero (x ∷ l) r i = by (in_append (x ∷ l) i)
+  drop_append {a} zero (x ∷ l) r i = by (in-append (x ∷ l) i)
     where
       by : In a (x ∷ l) ⊎ In a r → In a (x ∷ l) ⊎ In a (drop (0 - suc (length l)) r)
       by (inl j) = inl j

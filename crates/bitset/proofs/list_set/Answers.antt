@@ -24,11 +24,11 @@ loop-rest-preserved c = (
       omega (arith, and_le_r c.loop-rest.rest (c.loop-rest.rest - 1)),
     )
 
-few : (c : goal.In-loop-rest) → count_trailing_zeros 64 c.loop-rest.rest ≤ 64
-few c = trailing_le 64 c.loop-rest.rest
-
 pub loop-rest-init : goal.loop-rest-init
 loop-rest-init c = (refl, refl, refl, c.ranges.x.fits)
+
+few : (c : goal.In-loop-rest) → count_trailing_zeros 64 c.loop-rest.rest ≤ 64
+few c = trailing_le 64 c.loop-rest.rest
 
 pub overflow_cast-out : goal.overflow_cast-out
 overflow_cast-out c = omega (arith, few c)

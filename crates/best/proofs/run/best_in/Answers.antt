@@ -12,7 +12,7 @@ use borrow.Author.Rules.{rules}
 use Rattle.best.proofs.run.best_in.Goals as goal
 
 -- there are more than k places
-part : (c : goal.After-begin_best) →
+part : (c : goal.After-slice_known-7-1) →
  (c.args.p.k ≤ length c.begin_best.new.ranked) × (length (take c.args.p.k c.begin_best.new.ranked) ≡ c.args.p.k)
 part c =
     let fits : c.args.p.k ≤ length c.begin_best.new.ranked
@@ -20,25 +20,41 @@ part c =
     (fits, length-take-le _ _ fits)
 
 pub slice_bounds-find_best-end : goal.slice_bounds-find_best-end
-slice_bounds-find_best-end c = (part c.before.before.before.before.before.before).0
+slice_bounds-find_best-end c = (part c).0
 
 pub slice_bounds-find_best-end-2 : goal.slice_bounds-find_best-end-2
-slice_bounds-find_best-end-2 c = sym (part c.before.before.before.before.before.before).1
+slice_bounds-find_best-end-2 c = sym (part c).1
 
 pub find_best-cost-requires : goal.find_best-cost-requires
 find_best-cost-requires c =
     record { tables = c.requires.tables; prepared = (c.begin_best.ensures.0, c.begin_best.auto.spare ∙ c.requires.given.2, c.requires.given.5) }
 
+-- there are more than k places
+part_2 : (c : goal.After-slice_known-8-1) →
+ (c.args.p.k ≤ length c.begin_best.new.ranked) × (length (take c.args.p.k c.begin_best.new.ranked) ≡ c.args.p.k)
+part_2 c =
+    let fits : c.args.p.k ≤ length c.begin_best.new.ranked
+    = omega (arith, c.begin_best.auto.ranked, c.requires.given.1, (accepted_done _ c.requires.given.0.done).k_most) in
+    (fits, length-take-le _ _ fits)
+
 pub slice_bounds-write_figures-end : goal.slice_bounds-write_figures-end
-slice_bounds-write_figures-end c = (part c.before.before.before.before.before.before.before.before.before.before).0
+slice_bounds-write_figures-end c = (part_2 c).0
 
 pub slice_bounds-write_figures-end-2 : goal.slice_bounds-write_figures-end-2
-slice_bounds-write_figures-end-2 c = sym (part c.before.before.before.before.before.before.before.before.before.before).1
+slice_bounds-write_figures-end-2 c = sym (part_2 c).1
+
+-- there are more than k places
+part_3 : (c : goal.After-write_figures-arg-1) →
+ (c.args.p.k ≤ length c.begin_best.new.ranked) × (length (take c.args.p.k c.begin_best.new.ranked) ≡ c.args.p.k)
+part_3 c =
+    let fits : c.args.p.k ≤ length c.begin_best.new.ranked
+    = omega (arith, c.begin_best.auto.ranked, c.requires.given.1, (accepted_done _ c.requires.given.0.done).k_most) in
+    (fits, length-take-le _ _ fits)
 
 pub write_figures-requires : goal.write_figures-requires
 write_figures-requires c =
     let a = accepted_done _ c.requires.given.0.done in
-    (c.requires.tables.field, trust_places c.begin_best.ensures.0.given, omega (arith, (part c.before.before.before.before.before.before.before.before.before.before.before).1, a.k_most, a.n_most), c.requires.given.5, c.requires.given.6, c.requires.given.3)
+    (c.requires.tables.field, trust_places c.begin_best.ensures.0.given, omega (arith, (part_3 c).1, a.k_most, a.n_most), c.requires.given.5, c.requires.given.6, c.requires.given.3)
 
 pub clear_room-requires : goal.clear_room-requires
 clear_room-requires c = omega (arith, c.begin_best.auto.work, c.requires.given.4)

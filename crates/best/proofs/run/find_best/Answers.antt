@@ -9,28 +9,34 @@ use Rattle.best.proofs.Words.{found_best}
 use Rattle.best.proofs.Stores.{lent_again}
 use Rattle.best.proofs.run.find_best.Goals as goal
 
-few : (c : goal.Start) → length c.args.xs.now ≤ 288
+few : (c : goal.After-search-arg-1) → length c.args.xs.now ≤ 288
 few c = (accepted_done _ c.requires.prepared.0.given.done).n_most
 
 pub slice_bounds-row-end : goal.slice_bounds-row-end
-slice_bounds-row-end c = few c.before.before.before.before.before.before.before.before
+slice_bounds-row-end c = few c
+
+few_2 : (c : goal.After-row-1) → length c.args.xs.now ≤ 288
+few_2 c = (accepted_done _ c.requires.prepared.0.given.done).n_most
 
 pub slice_bounds-search-end : goal.slice_bounds-search-end
-slice_bounds-search-end c = sym (length-take-le _ _ (few c.before.before.before.before.before.before.before.before.before))
+slice_bounds-search-end c = sym (length-take-le _ _ (few_2 c))
 
 pub search-found-requires : goal.search-found-requires
-search-found-requires c = record { tables = c.requires.tables; prepared = (c.requires.prepared.0, c.requires.prepared.1, length-take-le _ _ (few c.before.before.before.before.before.before.before.before.before), c.requires.prepared.2) }
+search-found-requires c = record { tables = c.requires.tables; prepared = (c.requires.prepared.0, c.requires.prepared.1, length-take-le _ _ (few_2 c), c.requires.prepared.2) }
+
+few_3 : (c : goal.After-row-2-1) → length c.args.xs.now ≤ 288
+few_3 c = (accepted_done _ c.requires.prepared.0.given.done).n_most
 
 pub slice_bounds-row-end-2 : goal.slice_bounds-row-end-2
 slice_bounds-row-end-2 c =
-    lent_again c.search-found.new.early_row (drop (length c.args.xs.now) (replicate 288 0)) (c.search-found.auto.early_row ∙ length-take-le _ _ (few c.before.before.before.before.before.before.before.before.before.before.before.before.before))
+    lent_again c.search-found.new.early_row (drop (length c.args.xs.now) (replicate 288 0)) (c.search-found.auto.early_row ∙ length-take-le _ _ (few_3 c))
 
 pub slice_bounds-write_word-end : goal.slice_bounds-write_word-end
-slice_bounds-write_word-end c = sym (length-take-le _ _ (array-borrow-prefix-row-2 c.before))
+slice_bounds-write_word-end c = sym (length-take-le _ _ (array-borrow-prefix-row-2 c))
 
 pub write_word-requires : goal.write_word-requires
 write_word-requires c =
-    record { tables = c.requires.tables; prepared = (c.requires.prepared.0, c.search-found.ensures.is_try, length-take-le _ _ (array-borrow-prefix-row-2 c.before.before), c.search-found.auto.late_row ∙ c.requires.prepared.1) }
+    record { tables = c.requires.tables; prepared = (c.requires.prepared.0, c.search-found.ensures.is_try, length-take-le _ _ (array-borrow-prefix-row-2 c), c.search-found.auto.late_row ∙ c.requires.prepared.1) }
 
 pub returns : goal.returns
 returns c = found_best c.search-found.ensures c.write_word.ensures

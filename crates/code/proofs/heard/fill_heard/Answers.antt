@@ -16,13 +16,13 @@ pub loop-i-init : goal.loop-i-init
 loop-i-init c = (omega arith, appended_none _)
 
 pub list_set-count-requires : goal.list_set-count-requires
-list_set-count-requires c = (omega (arith, room c.before, (at-loop c.before).loop.inv.1.size), omega arith)
+list_set-count-requires c = (omega (arith, room c, (at-loop c).loop.inv.1.size), omega arith)
 
 pub loop-i-preserved : goal.loop-i-preserved
 loop-i-preserved c =
     (
       omega arith,
-      places_appended (mask c.before.before.before.before) (bytes c.before.before.before.before) (at-loop c.before.before.before.before).loop.i c.word.ensures (fits c.before.before.before.before) (room c.before.before.before.before) c.List-set_of_Decides.ensures.0 c.List-set_of_Decides.ensures.1 (at-loop c.before.before.before.before).loop.invariant.1,
+      places_appended (mask c) (bytes c) (at-loop c).loop.i c.word.ensures (fits c) (room c) c.List-set_of_Decides.ensures.0 c.List-set_of_Decides.ensures.1 (at-loop c).loop.invariant.1,
     )
 
 pub shape_of-out : goal.shape_of-out

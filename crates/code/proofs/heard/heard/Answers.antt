@@ -8,23 +8,29 @@ use Rattle.code.proofs.Tested.{field_number, points_most, go_on, stop_by_tag}
 use borrow.Author.Rules.{rules}
 use Rattle.code.proofs.heard.heard.Goals as goal
 
+pub returns-then-not-is_field : goal.returns-then-not-is_field
+returns-then-not-is_field c = refuse _ (sym c.is_field.ensures ∙ c.if-not-is_field.true)
+
 is_field_lem : (c : goal.Else-not-is_field) → IsField c.args.code.field
 is_field_lem c = field_number c.is_field.ensures c.if-not-is_field.false
-
-tables : (c : goal.After-logarithms-logs) → Tables c.args.code.field c.powers-powers.result c.logarithms-logs.result
-tables c = record { field = is_field_lem c.before.before; is_powers = c.powers-powers.ensures; is_logs = c.logarithms-logs.ensures }
-
-pub returns-then-not-is_field : goal.returns-then-not-is_field
-returns-then-not-is_field c = refuse _ (sym c.is_field.ensures ∙ not-true _ c.if-not-is_field.true)
 
 pub powers-powers-requires : goal.powers-powers-requires
 powers-powers-requires c = is_field_lem c
 
+is_field_lem_2 : (c : goal.After-powers-powers) → IsField c.args.code.field
+is_field_lem_2 c = field_number c.is_field.ensures c.if-not-is_field.false
+
 pub logarithms-logs-requires : goal.logarithms-logs-requires
-logarithms-logs-requires c = is_field_lem c.before
+logarithms-logs-requires c = is_field_lem_2 c
+
+is_field_lem_3 : (c : goal.After-logs-1) → IsField c.args.code.field
+is_field_lem_3 c = field_number c.is_field.ensures c.if-not-is_field.false
+
+tables : (c : goal.After-logs-1) → Tables c.args.code.field c.powers-powers.result c.logarithms-logs.result
+tables c = record { field = is_field_lem_3 c; is_powers = c.powers-powers.ensures; is_logs = c.logarithms-logs.ensures }
 
 pub test_code_with-tested-requires : goal.test_code_with-tested-requires
-test_code_with-tested-requires c = tables c.before.before
+test_code_with-tested-requires c = tables c
 
 pub heard_tested-requires : goal.heard_tested-requires
 heard_tested-requires c = points_most _ (sym c.test_code_with-tested.ensures ∙ c.in-Done.is)

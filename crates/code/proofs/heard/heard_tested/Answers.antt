@@ -21,13 +21,13 @@ returns-then-out-ne288 c = pass _ (eq-eqb _ _ c.if-mask-ne40.false) (refuse _ (n
 
 pub returns-then-not-none_past : goal.returns-then-not-none_past
 returns-then-not-none_past c = pass _ (eq-eqb _ _ c.if-mask-ne40.false) (pass _ (eq-eqb _ _ c.if-out-ne288.false)
-    (refuse _ (sym c.none_past.ensures ∙ not-true _ c.if-not-none_past.true)))
+    (refuse _ (sym c.none_past.ensures ∙ c.if-not-none_past.true)))
 
 -- no bit is set past n
 pub fill_heard-count-requires : goal.fill_heard-count-requires
-fill_heard-count-requires c = (c.if-mask-ne40.false, omega (arith, few c.before, c.if-out-ne288.false))
+fill_heard-count-requires c = (c.if-mask-ne40.false, omega (arith, few c, c.if-out-ne288.false))
 
 pub returns : goal.returns
 returns c =
     pass _ (eq-eqb _ _ c.if-mask-ne40.false) (pass _ (eq-eqb _ _ c.if-out-ne288.false)
-    (pass _ (none c.before.before.before.before) (count (c.fill_heard-count.ensures.0 ∙ ap length (places c.before.before.before.before)) (c.fill_heard-count.ensures.1 ∙ ap (λ l. written l (entry c.before.before.before.before).args.out.now) (places c.before.before.before.before)))))
+    (pass _ (none c) (count (c.fill_heard-count.ensures.0 ∙ ap length (places c)) (c.fill_heard-count.ensures.1 ∙ ap (λ l. written l (entry c).args.out.now) (places c)))))

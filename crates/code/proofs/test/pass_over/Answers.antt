@@ -15,9 +15,6 @@ use Rattle.code.proofs.Marking.{Marked, marked_none, marked_next, all_next}
 use Rattle.code.proofs.Repeats.{points_table}
 use Rattle.code.proofs.test.pass_over.Goals as goal
 
-inside : (c : goal.After-slice_known-in-loop-i-1) → c.slot-s.result < length c.loop-i.seen
-inside c = omega (arith, c.slot-s.ensures.1, c.loop-i.invariant.4.size)
-
 pub loop-i-init : goal.loop-i-init
 loop-i-init c = (omega arith, refl, bits_none c.args.m, refl, marked_none _ _ c.requires.xs_len.1)
 
@@ -30,11 +27,17 @@ on_curve-on-requires c = c.requires.tables
 pub slot-s-requires : goal.slot-s-requires
 slot-s-requires c = c.requires.tables
 
+inside : (c : goal.After-slice_known-in-loop-i-1-unread) → c.slot-s.result < length c.loop-i.seen
+inside c = omega (arith, c.slot-s.ensures.1, c.loop-i.invariant.4.size)
+
 pub bounds-seen-s : goal.bounds-seen-s
-bounds-seen-s c = inside c?
+bounds-seen-s c = inside c
+
+inside_2 : (c : goal.After-slice_known-in-loop-i-1) → c.slot-s.result < length c.loop-i.seen
+inside_2 c = omega (arith, c.slot-s.ensures.1, c.loop-i.invariant.4.size)
 
 pub bounds-seen-s-in-loop-i : goal.bounds-seen-s-in-loop-i
-bounds-seen-s-in-loop-i c = inside c
+bounds-seen-s-in-loop-i c = inside_2 c
 
 pub loop-i-preserved : goal.loop-i-preserved
 loop-i-preserved c =

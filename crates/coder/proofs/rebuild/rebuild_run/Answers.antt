@@ -22,16 +22,20 @@ prepare_word-prepared-requires c = record { tables = c.requires.tables; ys_value
 passed : (c : goal.In-Done) → posed_answer (code_of c.args.p c.args.xs.now c.args.ys.now) c.args.places.now c.args.symbols.now ≡ Done
 passed c = sym c.prepare_word-prepared.ensures.answers ∙ c.in-Done.is
 
-holds : (c : goal.In-Done) → c.prepare_word-prepared.new.f ≡ solved_word (code_of c.args.p c.args.xs.now c.args.ys.now) c.args.places.now c.args.symbols.now
-holds c = c.prepare_word-prepared.ensures.holds c.in-Done.is
-
 pub agrees_at-requires : goal.agrees_at-requires
 agrees_at-requires c =
     (all_in_lem (solvable _ _ _ (passed c) c.requires.ys_value c.requires.symbols_len.0).placed c.prepare_word-prepared.new.f (c.prepare_word-prepared.auto.f ∙ c.requires.symbols_len.3), c.requires.symbols_len.0)
 
+-- the tests were passed, and the word stands in f
+passed_2 : (c : goal.Then-not-agrees_at) → posed_answer (code_of c.args.p c.args.xs.now c.args.ys.now) c.args.places.now c.args.symbols.now ≡ Done
+passed_2 c = sym c.prepare_word-prepared.ensures.answers ∙ c.in-Done.is
+
+holds : (c : goal.Then-not-agrees_at) → c.prepare_word-prepared.new.f ≡ solved_word (code_of c.args.p c.args.xs.now c.args.ys.now) c.args.places.now c.args.symbols.now
+holds c = c.prepare_word-prepared.ensures.holds c.in-Done.is
+
 pub returns-then-not-agrees_at : goal.returns-then-not-agrees_at
 returns-then-not-agrees_at c =
-    posed_go _ _ _ (passed c.before.before) _ (refuse _ (agreed_by _ _ _ c.requires.ys_value (enough _ _ _ (passed c.before.before) c.requires.ys_value c.requires.symbols_len.0) (holds c.before.before) c.agrees_at.ensures ∙ not-true _ c.if-not-agrees_at.true))
+    posed_go _ _ _ (passed_2 c) _ (refuse _ (agreed_by _ _ _ c.requires.ys_value (enough _ _ _ (passed_2 c) c.requires.ys_value c.requires.symbols_len.0) (holds c) c.agrees_at.ensures ∙ c.if-not-agrees_at.true))
 
 pub copy-requires : goal.copy-requires
 copy-requires c = (omega (arith, c.prepare_word-prepared.auto.f, c.requires.symbols_len.3), omega (arith, c.requires.symbols_len.1))
@@ -39,13 +43,20 @@ copy-requires c = (omega (arith, c.prepare_word-prepared.auto.f, c.requires.symb
 pub clear_room-requires : goal.clear_room-requires
 clear_room-requires c = c.requires.symbols_len.2
 
+-- the tests were passed, and the word stands in f
+passed_3 : (c : goal.After-slice_known-in-Done-2-1) → posed_answer (code_of c.args.p c.args.xs.now c.args.ys.now) c.args.places.now c.args.symbols.now ≡ Done
+passed_3 c = sym c.prepare_word-prepared.ensures.answers ∙ c.in-Done.is
+
+holds_2 : (c : goal.After-slice_known-in-Done-2-1) → c.prepare_word-prepared.new.f ≡ solved_word (code_of c.args.p c.args.xs.now c.args.ys.now) c.args.places.now c.args.symbols.now
+holds_2 c = c.prepare_word-prepared.ensures.holds c.in-Done.is
+
 pub returns-in-Done : goal.returns-in-Done
 returns-in-Done c =
-    let t = agreed_by _ _ _ c.requires.ys_value (enough _ _ _ (passed c.before.before.before.before.before.before.before.before.before.before) c.requires.ys_value c.requires.symbols_len.0) (holds c.before.before.before.before.before.before.before.before.before.before) c.agrees_at.ensures ∙ not-false _ c.if-not-agrees_at.false in
-    posed_go _ _ _ (passed c.before.before.before.before.before.before.before.before.before.before) _
+    let t = agreed_by _ _ _ c.requires.ys_value (enough _ _ _ (passed_3 c) c.requires.ys_value c.requires.symbols_len.0) (holds_2 c) c.agrees_at.ensures ∙ c.if-not-agrees_at.false in
+    posed_go _ _ _ (passed_3 c) _
     (pass _ t
     (accept_pair
-    (copied (c.prepare_word-prepared.auto.f ∙ c.requires.symbols_len.3) (c.copy.auto.out ∙ c.requires.symbols_len.1) c.copy.ensures ∙ rebuilt _ _ _ c.requires.ys_value (enough _ _ _ (passed c.before.before.before.before.before.before.before.before.before.before) c.requires.ys_value c.requires.symbols_len.0) (holds c.before.before.before.before.before.before.before.before.before.before) t)
+    (copied (c.prepare_word-prepared.auto.f ∙ c.requires.symbols_len.3) (c.copy.auto.out ∙ c.requires.symbols_len.1) c.copy.ensures ∙ rebuilt _ _ _ c.requires.ys_value (enough _ _ _ (passed_3 c) c.requires.ys_value c.requires.symbols_len.0) (holds_2 c) t)
     c.clear_room.ensures))
 
 pub returns : goal.returns

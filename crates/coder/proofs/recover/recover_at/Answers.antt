@@ -12,16 +12,6 @@ use Rattle.coder.specs.Stages.{place_at}
 use borrow.Author.Rules.{rules}
 use Rattle.coder.proofs.recover.recover_at.Goals as goal
 
--- what stands in the lent part
-are_places : (c : goal.After-fill_places)
- →
- let n = length c.args.xs.now in
- take n (c.fill_places.new.places ++ drop n c.args.places.now) ≡ table place_at n
-are_places c =
-    let n = length c.args.xs.now in
-    let h : n ≤ length c.args.places.now = omega (arith, c.requires.in_bounds.0, (accepted_done _ c.requires.ys_value).n_most) in
-    front c.args.places.now c.fill_places.new.places n h c.fill_places.auto.places ∙ c.fill_places.ensures ∙ ap (table place_at) (length-take-le n c.args.places.now h)
-
 pub slice_bounds-fill_places-end : goal.slice_bounds-fill_places-end
 slice_bounds-fill_places-end c = omega (arith, c.requires.in_bounds.0, (accepted_done _ c.requires.ys_value).n_most)
 
@@ -37,12 +27,32 @@ fill_places-requires c =
 pub slice_bounds-recover_run-end : goal.slice_bounds-recover_run-end
 slice_bounds-recover_run-end c = omega (arith, c.requires.in_bounds.0, (accepted_done _ c.requires.ys_value).n_most)
 
+-- what stands in the lent part
+are_places : (c : goal.After-slice_known-5-1)
+ →
+ let n = length c.args.xs.now in
+ take n (c.fill_places.new.places ++ drop n c.args.places.now) ≡ table place_at n
+are_places c =
+    let n = length c.args.xs.now in
+    let h : n ≤ length c.args.places.now = omega (arith, c.requires.in_bounds.0, (accepted_done _ c.requires.ys_value).n_most) in
+    front c.args.places.now c.fill_places.new.places n h c.fill_places.auto.places ∙ c.fill_places.ensures ∙ ap (table place_at) (length-take-le n c.args.places.now h)
+
 pub slice_bounds-recover_run-end-2 : goal.slice_bounds-recover_run-end-2
-slice_bounds-recover_run-end-2 c = rw (are_places c.before.before) (sym (length_table _ _))
+slice_bounds-recover_run-end-2 c = rw (are_places c) (sym (length_table _ _))
+
+-- what stands in the lent part
+are_places_2 : (c : goal.After-recover_run-arg-3-1)
+ →
+ let n = length c.args.xs.now in
+ take n (c.fill_places.new.places ++ drop n c.args.places.now) ≡ table place_at n
+are_places_2 c =
+    let n = length c.args.xs.now in
+    let h : n ≤ length c.args.places.now = omega (arith, c.requires.in_bounds.0, (accepted_done _ c.requires.ys_value).n_most) in
+    front c.args.places.now c.fill_places.new.places n h c.fill_places.auto.places ∙ c.fill_places.ensures ∙ ap (table place_at) (length-take-le n c.args.places.now h)
 
 pub recover_run-requires : goal.recover_run-requires
 recover_run-requires c =
-    record { tables = c.requires.tables; ys_value = c.requires.ys_value; places_value = (are_places c.before.before.before.before.before, c.requires.in_bounds.1, c.requires.in_bounds.2, c.requires.in_bounds.3, c.requires.in_bounds.4) }
+    record { tables = c.requires.tables; ys_value = c.requires.ys_value; places_value = (are_places_2 c, c.requires.in_bounds.1, c.requires.in_bounds.2, c.requires.in_bounds.3, c.requires.in_bounds.4) }
 
 pub returns : goal.returns
 returns c = c.recover_run.ensures

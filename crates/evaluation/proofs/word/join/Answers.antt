@@ -13,14 +13,18 @@ pub loop-i-init : goal.loop-i-init
 loop-i-init c = (omega arith, refl, refl)
 
 -- a coordinate is a byte
-byte : (c : goal.After-wide-at) → c.wide-at.result < 256
+byte : (c : goal.After-way_told-1) → c.wide-at.result < 256
 byte c = omega (arith, c.wide-at.ensures, c.type_inv.xs c.loop-i.i)
 
 pub bounds-a-at : goal.bounds-a-at
-bounds-a-at c = byte c.before
+bounds-a-at c = byte c
+
+-- a coordinate is a byte
+byte_2 : (c : goal.After-way_told-in-loop-i-1) → c.wide-at.result < 256
+byte_2 c = omega (arith, c.wide-at.ensures, c.type_inv.xs c.loop-i.i)
 
 pub bounds-b-at : goal.bounds-b-at
-bounds-b-at c = byte c.before.before.before.before
+bounds-b-at c = byte_2 c
 
 pub loop-i-preserved : goal.loop-i-preserved
 loop-i-preserved c =

@@ -12,17 +12,17 @@ use Rattle.patterns.proofs.Cheapest.{least_first}
 use Rattle.gap.proofs.Least.{gap_least, least_parts}
 use Rattle.gap.proofs.gap.gap.Goals as goal
 
-singles : (c : goal.Start) → length c.args.places.now * c.args.s ≤ 73440
+singles : (c : goal.After-single_left-single) → length c.args.places.now * c.args.s ≤ 73440
 singles c = mul-le-mul c.requires.1 c.requires.3
 
-square : (c : goal.Start) → c.args.s * c.args.s ≤ 65025
+pub overflow_mul-places : goal.overflow_mul-places
+overflow_mul-places c = record { fits = omega (arith, singles c) }
+
+square : (c : goal.After-less-left) → c.args.s * c.args.s ≤ 65025
 square c = mul-le-mul c.requires.3 c.requires.3
 
-pub overflow_mul-places : goal.overflow_mul-places
-overflow_mul-places c = record { fits = omega (arith, singles c.before.before.before) }
-
 pub overflow_mul-s : goal.overflow_mul-s
-overflow_mul-s c = record { fits = omega (arith, square c.before.before.before.before) }
+overflow_mul-s c = record { fits = omega (arith, square c) }
 
 pub nonzero_div-left : goal.nonzero_div-left
 nonzero_div-left c = mul-pos c.requires.2 c.requires.2

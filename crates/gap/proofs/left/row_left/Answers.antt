@@ -14,10 +14,13 @@ inside c = ⊎_elim (λ h. omega (arith, h, c.if-k-ge2.true)) (λ h. h) c.requir
 pub overflow_sub-k-then-k-ge2-2 : goal.overflow_sub-k-then-k-ge2-2
 overflow_sub-k-then-k-ge2-2 c = omega (arith, inside c)
 
+inside_2 : (c : goal.After-pair_below) → c.args.left + 1 < c.args.k
+inside_2 c = ⊎_elim (λ h. omega (arith, h, c.if-k-ge2.true)) (λ h. h) c.requires.2
+
 pub returns-then-k-ge2 : goal.returns-then-k-ge2
 returns-then-k-ge2 c =
     rw (c.pair_below.ensures, c.smaller.ensures, c.pair_trust-pair.ensures.0)
-    (sym (row_some (entries c.args.trusts.now c.args.places.now) c.args.low c.args.k c.args.left (inside c.before.before.before)))
+    (sym (row_some (entries c.args.trusts.now c.args.places.now) c.args.low c.args.k c.args.left (inside_2 c)))
 
 pub returns : goal.returns
 returns c =

@@ -31,11 +31,6 @@ loop-i-init c =
       },
     )
 
--- the arrays are as long as they were at entry
-long : (c : goal.At-loop-i) → Long c.loop-i.l c.loop-i.u × (292 ≤ length c.loop-i.f)
-long c =
-    ((omega (arith, c.loop-i.invariant.0, c.begin.auto.l, c.requires.runs.1.0), omega (arith, c.loop-i.invariant.1, c.begin.auto.u, c.requires.runs.1.1)), omega (arith, c.loop-i.invariant.2, c.requires.runs.3))
-
 pub chosen_place-place-requires : goal.chosen_place-place-requires
 chosen_place-place-requires c =
     omega (arith, c.requires.runs.0.within.enough)
@@ -48,10 +43,15 @@ pub message_symbol-v-requires : goal.message_symbol-v-requires
 message_symbol-v-requires c =
     omega (arith, c.requires.runs.2, c.loop-i-test.true)
 
+-- the arrays are as long as they were at entry
+long : (c : goal.After-turn-arg-in-loop-i-2-1) → Long c.loop-i.l c.loop-i.u × (292 ≤ length c.loop-i.f)
+long c =
+    ((omega (arith, c.loop-i.invariant.0, c.begin.auto.l, c.requires.runs.1.0), omega (arith, c.loop-i.invariant.1, c.begin.auto.u, c.requires.runs.1.1)), omega (arith, c.loop-i.invariant.2, c.requires.runs.3))
+
 pub turn-n-requires : goal.turn-n-requires
 turn-n-requires c =
     let small = c.requires.runs.0.small c.loop-i.i c.loop-i-test.true in
-    record { tables = c.requires.tables; room = (room c.loop-i.invariant.4.pair small (long c.before.before.before.before.before.before.before).0, word_room c.loop-i.invariant.4 small (long c.before.before.before.before.before.before.before).1) }
+    record { tables = c.requires.tables; room = (room c.loop-i.invariant.4.pair small (long c).0, word_room c.loop-i.invariant.4 small (long c).1) }
 
 pub overflow_add-i : goal.overflow_add-i
 overflow_add-i c =

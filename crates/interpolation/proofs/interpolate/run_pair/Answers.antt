@@ -22,11 +22,6 @@ unfolding after
 loop-i-init c =
     (refl, refl, omega arith, begins c.first_sizes-n.ensures.0 c.first_sizes-n.ensures.1 c.first_sizes-n.ensures.2 (omega (arith, c.begin.auto.l, c.requires.runs.1.0)) (omega (arith, c.begin.auto.u, c.requires.runs.1.1)) c.begin.ensures.0 c.begin.ensures.1)
 
--- the arrays are as long as they were at entry
-long : (c : goal.At-loop-i) → Long c.loop-i.l c.loop-i.u
-long c =
-    (omega (arith, c.loop-i.invariant.0, c.begin.auto.l, c.requires.runs.1.0), omega (arith, c.loop-i.invariant.1, c.begin.auto.u, c.requires.runs.1.1))
-
 pub chosen_place-place-requires : goal.chosen_place-place-requires
 chosen_place-place-requires c =
     omega (arith, c.requires.runs.0.within.enough)
@@ -35,9 +30,14 @@ pub point_at-p-requires : goal.point_at-p-requires
 point_at-p-requires c =
     rw c.chosen_place-place.ensures (c.requires.runs.0.within.each_is_place c.loop-i.i c.loop-i-test.true)
 
+-- the arrays are as long as they were at entry
+long : (c : goal.After-pair_turn-arg-in-loop-i-1) → Long c.loop-i.l c.loop-i.u
+long c =
+    (omega (arith, c.loop-i.invariant.0, c.begin.auto.l, c.requires.runs.1.0), omega (arith, c.loop-i.invariant.1, c.begin.auto.u, c.requires.runs.1.1))
+
 pub pair_turn-n-requires : goal.pair_turn-n-requires
 pair_turn-n-requires c =
-    record { tables = c.requires.tables; room = room c.loop-i.invariant.3 (c.requires.runs.0.small c.loop-i.i c.loop-i-test.true) (long c.before.before.before.before.before) }
+    record { tables = c.requires.tables; room = room c.loop-i.invariant.3 (c.requires.runs.0.small c.loop-i.i c.loop-i-test.true) (long c) }
 
 pub overflow_add-i : goal.overflow_add-i
 overflow_add-i c =

@@ -7,24 +7,15 @@ use Rattle.values.specs.Values.{Sweeping, raised_at, gained_at}
 use Rattle.values.proofs.Sweeps.{sweeping_none, sweeping_turn, sweeping_all, raised_by, gained_by}
 use Rattle.locator.proofs.pass.pass.Goals as goal
 
--- i is within every list
-within-p : (c : goal.In-loop-i) → c.loop-i.i < length c.loop-i.p
-within-p c = omega (arith, c.loop-i-test.true, c.requires.p_len.0, c.loop-i.invariant.0.size)
-
-within_a : (c : goal.In-loop-i) → c.loop-i.i < length c.loop-i.a
-within_a c = omega (arith, c.loop-i-test.true, c.requires.p_len.1, c.loop-i.invariant.1.size)
-
-within_b : (c : goal.In-loop-i) → c.loop-i.i < length c.loop-i.b
-within_b c = omega (arith, c.loop-i-test.true, c.requires.p_len.2, c.loop-i.invariant.2.size)
-
-within-c : (c : goal.In-loop-i) → c.loop-i.i < length c.loop-i.c
-within-c c = omega (arith, c.loop-i-test.true, c.requires.p_len.3, c.loop-i.invariant.3.size)
-
 pub loop-i-init : goal.loop-i-init
 loop-i-init c = (sweeping_none _ _ _, sweeping_none _ _ _, sweeping_none _ _ _, sweeping_none _ _ _)
 
+-- i is within every list
+within-p : (c : goal.After-slice_known-in-loop-i-1-unread) → c.loop-i.i < length c.loop-i.p
+within-p c = omega (arith, c.loop-i-test.true, c.requires.p_len.0, c.loop-i.invariant.0.size)
+
 pub bounds-p-i : goal.bounds-p-i
-bounds-p-i c = within-p c.before
+bounds-p-i c = within-p c
 
 pub product_by_log-gain_a-requires : goal.product_by_log-gain_a-requires
 product_by_log-gain_a-requires c = (c.requires.tables, logged c.requires.tables.field c.ranges.ta.fits c.logarithm-log_a.ensures)
@@ -41,26 +32,48 @@ bounds-xs-i c = c.loop-i-test.true
 pub product-requires : goal.product-requires
 product-requires c = c.requires.tables
 
+-- i is within every list
+within-p_2 : (c : goal.After-product) → c.loop-i.i < length c.loop-i.p
+within-p_2 c = omega (arith, c.loop-i-test.true, c.requires.p_len.0, c.loop-i.invariant.0.size)
+
 pub bounds-p-i-in-loop-i : goal.bounds-p-i-in-loop-i
-bounds-p-i-in-loop-i c = within-p c.before.before.before.before.before.before
+bounds-p-i-in-loop-i c = within-p_2 c
+
+within_a : (c : goal.After-slice_known-in-loop-i-2-1-unread) → c.loop-i.i < length c.loop-i.a
+within_a c = omega (arith, c.loop-i-test.true, c.requires.p_len.1, c.loop-i.invariant.1.size)
 
 pub bounds-a-i : goal.bounds-a-i
-bounds-a-i c = within_a c.before.before.before.before.before.before.before
+bounds-a-i c = within_a c
+
+within_a_2 : (c : goal.After-slice_known-in-loop-i-2-1) → c.loop-i.i < length c.loop-i.a
+within_a_2 c = omega (arith, c.loop-i-test.true, c.requires.p_len.1, c.loop-i.invariant.1.size)
 
 pub bounds-a-i-in-loop-i : goal.bounds-a-i-in-loop-i
-bounds-a-i-in-loop-i c = within_a c.before.before.before.before.before.before.before
+bounds-a-i-in-loop-i c = within_a_2 c
+
+within_b : (c : goal.After-slice_known-in-loop-i-3-1-unread) → c.loop-i.i < length c.loop-i.b
+within_b c = omega (arith, c.loop-i-test.true, c.requires.p_len.2, c.loop-i.invariant.2.size)
 
 pub bounds-b-i : goal.bounds-b-i
-bounds-b-i c = within_b c.before.before.before.before.before.before.before.before
+bounds-b-i c = within_b c
+
+within_b_2 : (c : goal.After-slice_known-in-loop-i-3-1) → c.loop-i.i < length c.loop-i.b
+within_b_2 c = omega (arith, c.loop-i-test.true, c.requires.p_len.2, c.loop-i.invariant.2.size)
 
 pub bounds-b-i-in-loop-i : goal.bounds-b-i-in-loop-i
-bounds-b-i-in-loop-i c = within_b c.before.before.before.before.before.before.before.before
+bounds-b-i-in-loop-i c = within_b_2 c
+
+within-c : (c : goal.After-slice_known-in-loop-i-4-1-unread) → c.loop-i.i < length c.loop-i.c
+within-c c = omega (arith, c.loop-i-test.true, c.requires.p_len.3, c.loop-i.invariant.3.size)
 
 pub bounds-c-i : goal.bounds-c-i
-bounds-c-i c = within-c c.before.before.before.before.before.before.before.before.before
+bounds-c-i c = within-c c
+
+within-c_2 : (c : goal.After-slice_known-in-loop-i-4-1) → c.loop-i.i < length c.loop-i.c
+within-c_2 c = omega (arith, c.loop-i-test.true, c.requires.p_len.3, c.loop-i.invariant.3.size)
 
 pub bounds-c-i-in-loop-i : goal.bounds-c-i-in-loop-i
-bounds-c-i-in-loop-i c = within-c c.before.before.before.before.before.before.before.before.before
+bounds-c-i-in-loop-i c = within-c_2 c
 
 -- a slice's length is a usize
 pub overflow_add-i : goal.overflow_add-i

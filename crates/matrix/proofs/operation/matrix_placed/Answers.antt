@@ -14,15 +14,19 @@ pub test_places-tested-requires : goal.test_places-tested-requires
 test_places-tested-requires c = (accepted_done _ c.requires.ys_value).n_most
 
 -- the tests were passed
-passed : (c : goal.In-Done) → places_answer (length c.args.xs.now) c.args.places.now ≡ Done
+passed : (c : goal.After-matrix_run-arg-in-Done-1) → places_answer (length c.args.xs.now) c.args.places.now ≡ Done
 passed c = sym c.test_places-tested.ensures ∙ c.in-Done.is
 
 pub matrix_run-requires : goal.matrix_run-requires
 matrix_run-requires c =
-    record { tables = c.requires.tables; placed = (are_placed _ _ (passed c.before.before) c.requires.ys_value, c.requires.places_len.0, c.requires.places_len.1, c.requires.places_len.2) }
+    record { tables = c.requires.tables; placed = (are_placed _ _ (passed c) c.requires.ys_value, c.requires.places_len.0, c.requires.places_len.1, c.requires.places_len.2) }
+
+-- the tests were passed
+passed_2 : (c : goal.After-slice_known-in-Done-2-1) → places_answer (length c.args.xs.now) c.args.places.now ≡ Done
+passed_2 c = sym c.test_places-tested.ensures ∙ c.in-Done.is
 
 pub returns-in-Done : goal.returns-in-Done
-returns-in-Done c = places_go _ _ (passed c.before.before.before.before.before.before.before) _ c.matrix_run.ensures
+returns-in-Done c = places_go _ _ (passed_2 c) _ c.matrix_run.ensures
 
 pub returns : goal.returns
 returns c = places_stop _ _ _ c.test_places-tested.ensures (λ d. ⊎_elim (λ e. omega (arith, e)) (λ e. omega (arith, e)) (rw d at c.in_default.in_default-own.keys2))

@@ -11,19 +11,27 @@ use borrow.Author.Rules.{rules}
 use Rattle.matrix.proofs.write.write_rows.Goals as goal
 
 -- there is a byte for each point
-fits : (c : goal.Start) → length c.args.px.now ≤ length c.args.work.now
+fits : (c : goal.After-fill_rows-arg-3-1) → length c.args.px.now ≤ length c.args.work.now
 fits c = omega (arith, c.requires.written.0.most, c.requires.written.1)
 
 pub slice_bounds-fill_rows-end-2 : goal.slice_bounds-fill_rows-end-2
-slice_bounds-fill_rows-end-2 c = sym (length-take-le _ _ (fits c.before.before.before.before.before.before.before.before.before.before.before))
+slice_bounds-fill_rows-end-2 c = sym (length-take-le _ _ (fits c))
+
+-- there is a byte for each point
+fits_2 : (c : goal.After-fill_rows-arg-4-1) → length c.args.px.now ≤ length c.args.work.now
+fits_2 c = omega (arith, c.requires.written.0.most, c.requires.written.1)
 
 pub fill_rows-requires : goal.fill_rows-requires
-fill_rows-requires c = record { tables = c.requires.tables; written = (c.requires.written.0, length-take-le _ _ (fits c.before.before.before.before.before.before.before.before.before.before.before.before)) }
+fill_rows-requires c = record { tables = c.requires.tables; written = (c.requires.written.0, length-take-le _ _ (fits_2 c)) }
+
+-- there is a byte for each point
+fits_3 : (c : goal.After-slice_known-9-1) → length c.args.px.now ≤ length c.args.work.now
+fits_3 c = omega (arith, c.requires.written.0.most, c.requires.written.1)
 
 pub returns : goal.returns
 returns c =
     (
       c.fill_rows.ensures,
       c.clear_room.ensures
-          ∙ ap (λ z. replicate room 0 ++ z) (written_drop (length c.args.px.now) room c.args.work.now (fits c.before.before.before.before.before.before.before.before.before.before.before.before.before.before.before.before.before.before.before.before.before.before.before.before.before) (omega (arith, c.requires.written.0.most)) c.fill_rows.new.sums c.fill_rows.auto.sums),
+          ∙ ap (λ z. replicate room 0 ++ z) (written_drop (length c.args.px.now) room c.args.work.now (fits_3 c) (omega (arith, c.requires.written.0.most)) c.fill_rows.new.sums c.fill_rows.auto.sums),
     )

@@ -19,7 +19,7 @@ returns-then-not-all_codes c =
     rw (
       le-leb _ _ c.if-state-gt4294967296.false,
       eq-eqb _ _ c.if-state-ne0.false,
-      sym c.all_codes.ensures ∙ not-true _ c.if-not-all_codes.true,
+      sym c.all_codes.ensures ∙ c.if-not-all_codes.true,
     )
 
 pub returns : goal.returns
@@ -28,6 +28,6 @@ returns c =
     rw (
       le-leb _ _ c.if-state-gt4294967296.false,
       eq-eqb _ _ c.if-state-ne0.false,
-      sym c.all_codes.ensures ∙ not-false _ c.if-not-all_codes.false,
+      sym c.all_codes.ensures ∙ c.if-not-all_codes.false,
     )
     c.absent_from.ensures

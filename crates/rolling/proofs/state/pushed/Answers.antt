@@ -21,10 +21,16 @@ bounds-codes-i c = omega arith
 pub bounds-codes-i-in-loop-i : goal.bounds-codes-i-in-loop-i
 bounds-codes-i-in-loop-i c = omega arith
 
+long_2 : (c : goal.In-loop-i) → length c.args.t1 ≡ 24
+long_2 c = good_length (e_int w16) 24 c.args.t1 _ c.well-formed.0
+
 pub loop-i-preserved : goal.loop-i-preserved
 loop-i-preserved c =
-    (omega arith, rw c.loop-i.invariant.1 (shift_turn 23 c.args.t1 (long c.before.before) c.loop-i.i (omega arith) c.loop-i.invariant.0))
+    (omega arith, rw c.loop-i.invariant.1 (shift_turn 23 c.args.t1 (long_2 c) c.loop-i.i (omega arith) c.loop-i.invariant.0))
+
+long_3 : (c : goal.After-loop-i) → length c.args.t1 ≡ 24
+long_3 c = good_length (e_int w16) 24 c.args.t1 _ c.well-formed.0
 
 pub returns : goal.returns
 returns c = let last : c.loop-i.i ≡ 0 = omega arith in
-    rw (c.loop-i.invariant.1, last) (shift_end 23 c.args.t1 (long c.before.before) c.args.code)
+    rw (c.loop-i.invariant.1, last) (shift_end 23 c.args.t1 (long_3 c) c.args.code)

@@ -12,11 +12,11 @@ use Rattle.search.proofs.Loops.{going_down, going_over, runs_over}
 use Rattle.search.proofs.Pairing.{earlier, less_pair, square_few}
 use Rattle.search.proofs.pairs.try_earlier.Goals as goal
 
-size_of : (c : goal.After-size-some) → c.size-some.result ≡ size c.args.p.field
-size_of c = c.size-some.ensures
-
 pub size-some-requires : goal.size-some-requires
 size-some-requires c = c.requires.tables.field
+
+size_of : (c : goal.After-size-some) → c.size-some.result ≡ size c.args.p.field
+size_of c = c.size-some.ensures
 
 pub overflow_sub-some : goal.overflow_sub-some
 overflow_sub-some c = omega (arith, size_of c, size_ge c.requires.tables.field)
@@ -31,9 +31,12 @@ pub try_pair-best-requires : goal.try_pair-best-requires
 try_pair-best-requires c =
     record { tables = c.requires.tables; prepared = (c.requires.prepared.0, c.loop-i.invariant.2.is_try, c.requires.prepared.2, c.loop-i.invariant.1 ∙ c.requires.prepared.3, c.requires.prepared.4, omega (arith, c.loop-i-test.true, c.loop-i.invariant.0)) }
 
+size_of_2 : (c : goal.Joined-rest-gt0) → c.size-some.result ≡ size c.args.p.field
+size_of_2 c = c.size-some.ensures
+
 pub overflow_mul-some : goal.overflow_mul-some
 overflow_mul-some c =
-    record { fits = omega (arith, square_few c.size-some.result (omega (arith, size_of c.before.before.before, size_le c.requires.tables.field))) }
+    record { fits = omega (arith, square_few c.size-some.result (omega (arith, size_of_2 c, size_le c.requires.tables.field))) }
 
 pub less-rest-requires : goal.less-rest-requires
 less-rest-requires c = tt
@@ -41,12 +44,15 @@ less-rest-requires c = tt
 pub loop-i-smaller : goal.loop-i-smaller
 loop-i-smaller c = omega (arith, c.loop-i-test.true)
 
+size_of_3 : (c : goal.After-less-rest) → c.size-some.result ≡ size c.args.p.field
+size_of_3 c = c.size-some.ensures
+
 pub loop-i-preserved : goal.loop-i-preserved
 loop-i-preserved c =
     (
       omega (arith, c.loop-i.invariant.0),
       ⊎_elim (λ w. rw w.5 (w.2.kept.1.1.1.1.1.1.1.1.1.1.0 ∙ c.loop-i.invariant.1)) (λ w. rw w.1 c.loop-i.invariant.1) c.if-rest-gt0.branch,
-      going_down c.loop-i.i c.loop-i-test.true (less_pair c.loop-i.rest (size c.args.p.field) c.args.p.k c.args.late.0 (size_of c.before.before.before.before) (c.loop-i.i - 1) c.less-rest.ensures)
+      going_down c.loop-i.i c.loop-i-test.true (less_pair c.loop-i.rest (size c.args.p.field) c.args.p.k c.args.late.0 (size_of_3 c) (c.loop-i.i - 1) c.less-rest.ensures)
           (⊎_elim (λ w. rw w.6 w.2.ensures) (λ w. rw w.2 (runs_over c.loop-i.rest _ w.0.left c.loop-i.invariant.2.is_try)) c.if-rest-gt0.branch) c.loop-i.invariant.2,
     )
 

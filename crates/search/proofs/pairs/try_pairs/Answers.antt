@@ -13,11 +13,11 @@ use Rattle.search.proofs.Loops.{going_down, going_over, runs_over}
 use Rattle.search.proofs.Pairing.{earlier, pairs_start, less_earlier, square_few, product_few}
 use Rattle.search.proofs.pairs.try_pairs.Goals as goal
 
-size_of : (c : goal.After-size-some) → c.size-some.result ≡ size c.args.p.field
-size_of c = c.size-some.ensures
-
 pub size-some-requires : goal.size-some-requires
 size-some-requires c = c.requires.tables.field
+
+size_of : (c : goal.After-size-some) → c.size-some.result ≡ size c.args.p.field
+size_of c = c.size-some.ensures
 
 pub overflow_sub-some : goal.overflow_sub-some
 overflow_sub-some c = omega (arith, size_of c, size_ge c.requires.tables.field)
@@ -32,16 +32,19 @@ pub try_late-best-requires : goal.try_late-best-requires
 try_late-best-requires c =
     record { tables = c.requires.tables; prepared = (c.requires.prepared.0, c.loop-i.invariant.3.is_try, c.loop-i.invariant.1 ∙ c.requires.prepared.2, c.loop-i.invariant.2 ∙ c.requires.prepared.3, omega (arith, c.loop-i-test.true, c.loop-i.invariant.0)) }
 
-few : (c : goal.After-size-some) → c.size-some.result ≤ 256
-few c = omega (arith, size_of c, size_le c.requires.tables.field)
+size_of_2 : (c : goal.Joined-rest-gt0) → c.size-some.result ≡ size c.args.p.field
+size_of_2 c = c.size-some.ensures
+
+few : (c : goal.Joined-rest-gt0) → c.size-some.result ≤ 256
+few c = omega (arith, size_of_2 c, size_le c.requires.tables.field)
 
 pub overflow_mul-some : goal.overflow_mul-some
-overflow_mul-some c = record { fits = omega (arith, square_few c.size-some.result (few c.before.before.before)) }
+overflow_mul-some c = record { fits = omega (arith, square_few c.size-some.result (few c)) }
 
 pub overflow_mul-i : goal.overflow_mul-i
 overflow_mul-i c =
     let code = accepted c.requires.prepared.0.given in
-    record { fits = omega (arith, product_few (c.loop-i.i - 1) c.size-some.result (omega (arith, c.loop-i.invariant.0, code.k_most, code.n_most)) (few c.before.before.before)) }
+    record { fits = omega (arith, product_few (c.loop-i.i - 1) c.size-some.result (omega (arith, c.loop-i.invariant.0, code.k_most, code.n_most)) (few c)) }
 
 pub less-rest-requires : goal.less-rest-requires
 less-rest-requires c = tt
@@ -49,13 +52,16 @@ less-rest-requires c = tt
 pub loop-i-smaller : goal.loop-i-smaller
 loop-i-smaller c = omega (arith, c.loop-i-test.true)
 
+size_of_3 : (c : goal.After-less-rest) → c.size-some.result ≡ size c.args.p.field
+size_of_3 c = c.size-some.ensures
+
 pub loop-i-preserved : goal.loop-i-preserved
 loop-i-preserved c =
     (
       omega (arith, c.loop-i.invariant.0),
       ⊎_elim (λ w. rw w.8 (w.3.kept.1.1.1.1.1.1.1.1.1.0 ∙ c.loop-i.invariant.1)) (λ w. rw w.1 c.loop-i.invariant.1) c.if-rest-gt0.branch,
       ⊎_elim (λ w. rw w.9 (w.3.kept.1.1.1.1.1.1.1.1.1.1.0 ∙ c.loop-i.invariant.2)) (λ w. rw w.2 c.loop-i.invariant.2) c.if-rest-gt0.branch,
-      going_down c.loop-i.i c.loop-i-test.true (less_earlier c.loop-i.rest (size c.args.p.field) c.args.p.k (c.loop-i.i - 1) (size_of c.before.before.before.before) c.less-rest.ensures)
+      going_down c.loop-i.i c.loop-i-test.true (less_earlier c.loop-i.rest (size c.args.p.field) c.args.p.k (c.loop-i.i - 1) (size_of_3 c) c.less-rest.ensures)
           (⊎_elim (λ w. rw w.10 w.3.ensures) (λ w. rw w.3 (runs_over c.loop-i.rest _ w.0.left c.loop-i.invariant.3.is_try)) c.if-rest-gt0.branch) c.loop-i.invariant.3,
     )
 

@@ -7,22 +7,22 @@ use Rattle.patterns.specs.Cheapest.{weigh}
 use Rattle.search.proofs.Loops.{weigh_more, weigh_same, weigh_over}
 use Rattle.search.proofs.run.total.Goals as goal
 
+pub loop-i-init : goal.loop-i-init
+loop-i-init c = (omega arith, omega arith, omega arith)
+
 -- there is a difference for each trust
-inside : (c : goal.In-loop-i) → c.loop-i.i < length c.args.difference.now
+inside : (c : goal.After-shared_slice_known-1-unread) → c.loop-i.i < length c.args.difference.now
 inside c = omega (arith, c.loop-i-test.true, c.requires.0)
+
+pub bounds-difference-i : goal.bounds-difference-i
+bounds-difference-i c = inside c
+
+pub bounds-trusts-i : goal.bounds-trusts-i
+bounds-trusts-i c = c.loop-i-test.true
 
 -- a trust is a byte
 byte : (c : goal.After-shared_slice_known-then-difference-i-ne0-1) → get_or c.args.trusts.now c.loop-i.i 0 ≤ 255
 byte c = omega (arith, (c.type_inv.trusts c.loop-i.i).fits)
-
-pub loop-i-init : goal.loop-i-init
-loop-i-init c = (omega arith, omega arith, omega arith)
-
-pub bounds-difference-i : goal.bounds-difference-i
-bounds-difference-i c = inside c.before
-
-pub bounds-trusts-i : goal.bounds-trusts-i
-bounds-trusts-i c = c.loop-i-test.true
 
 pub overflow_cast-sum : goal.overflow_cast-sum
 overflow_cast-sum c = record { fits = omega (arith, byte c) }
@@ -36,16 +36,20 @@ overflow_add-i c = record { fits = omega (arith, c.loop-i-test.true, c.requires.
 pub loop-i-smaller : goal.loop-i-smaller
 loop-i-smaller c = omega (arith, c.loop-i-test.true)
 
+-- there is a difference for each trust
+inside_2 : (c : goal.Joined-difference-i-ne0) → c.loop-i.i < length c.args.difference.now
+inside_2 c = omega (arith, c.loop-i-test.true, c.requires.0)
+
 pub loop-i-preserved : goal.loop-i-preserved
 loop-i-preserved c =
     (
       omega (arith, c.loop-i-test.true),
       ⊎_elim
-          (λ w. omega (arith, w.2, byte (record { before = record { before = c.before; if1 = w.0 }; shared-slice-known2 = w.1 }), c.loop-i.invariant.1))
+          (λ w. omega (arith, w.2, byte (record { before = record { before = c; if1 = w.0 }; shared-slice-known2 = w.1 }), c.loop-i.invariant.1))
           (λ w. omega (arith, w.1, c.loop-i.invariant.1)) c.if-difference-i-ne0.branch,
       ⊎_elim
-          (λ w. rw w.2 (weigh_more c.args.trusts.now c.args.difference.now c.loop-i.i c.loop-i.sum c.loop-i.invariant.2 c.loop-i-test.true (inside c.before.before) w.0.taken))
-          (λ w. rw w.1 (weigh_same c.args.trusts.now c.args.difference.now c.loop-i.i c.loop-i.sum c.loop-i.invariant.2 c.loop-i-test.true (inside c.before.before) w.0.left))
+          (λ w. rw w.2 (weigh_more c.args.trusts.now c.args.difference.now c.loop-i.i c.loop-i.sum c.loop-i.invariant.2 c.loop-i-test.true (inside_2 c) w.0.taken))
+          (λ w. rw w.1 (weigh_same c.args.trusts.now c.args.difference.now c.loop-i.i c.loop-i.sum c.loop-i.invariant.2 c.loop-i-test.true (inside_2 c) w.0.left))
           c.if-difference-i-ne0.branch,
     )
 

@@ -11,9 +11,6 @@ use Rattle.search.proofs.Running.{Going}
 use Rattle.search.proofs.Loops.{going_down, going_over, runs_over, length_values, singles_start}
 use Rattle.search.proofs.singles.try_singles.Goals as goal
 
-abbrev code : goal.In-loop-i → Code
-code c = code_of c.args.p c.args.xs.now c.args.ys.now
-
 pub size-some-requires : goal.size-some-requires
 size-some-requires c = c.requires.tables.field
 
@@ -36,19 +33,22 @@ less-rest-requires c = tt
 pub loop-i-smaller : goal.loop-i-smaller
 loop-i-smaller c = omega (arith, c.loop-i-test.true)
 
+abbrev code : goal.After-less-rest → Code
+code c = code_of c.args.p c.args.xs.now c.args.ys.now
+
 -- the changes of the place before i: tried, or none is left
-tried : (c : goal.Joined-rest-gt0) →
- Runs (code c.before) c.args.received.now c.args.trusts.now c.loop-i.best c.loop-i.rest (values (q (code c.before)) (none c.args.p.k) (c.loop-i.i - 1)) c.if-rest-gt0.best
+tried : (c : goal.After-less-rest) →
+ Runs (code c) c.args.received.now c.args.trusts.now c.loop-i.best c.loop-i.rest (values (q (code c)) (none c.args.p.k) (c.loop-i.i - 1)) c.if-rest-gt0.best
 tried c =
     ⊎_elim (λ w. rw w.6 w.2.ensures) (λ w. rw w.2 (runs_over c.loop-i.rest _ w.0.left c.loop-i.invariant.2.is_try)) c.if-rest-gt0.branch
 
 pub loop-i-preserved : goal.loop-i-preserved
 loop-i-preserved c =
     let some = ap (λ z. z - 1) (sym c.size-some.ensures) in
-    let count = length_values (q (code c.before.before)) (none c.args.p.k) (c.loop-i.i - 1) ∙ some in (
+    let count = length_values (q (code c)) (none c.args.p.k) (c.loop-i.i - 1) ∙ some in (
       omega (arith, c.loop-i.invariant.0),
       ⊎_elim (λ w. ap length w.5 ∙ w.2.kept.1.1.1.1.1.1.1.1.1.0 ∙ c.loop-i.invariant.1) (λ w. ap length w.1 ∙ c.loop-i.invariant.1) c.if-rest-gt0.branch,
-      going_down c.loop-i.i c.loop-i-test.true (c.less-rest.ensures ∙ ap (λ n. c.loop-i.rest - n) (sym count)) (tried c.before) c.loop-i.invariant.2,
+      going_down c.loop-i.i c.loop-i-test.true (c.less-rest.ensures ∙ ap (λ n. c.loop-i.rest - n) (sym count)) (tried c) c.loop-i.invariant.2,
     )
 
 pub shape_of-row : goal.shape_of-row

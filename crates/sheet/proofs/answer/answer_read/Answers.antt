@@ -11,25 +11,25 @@ use Rattle.sheet.proofs.Whole.{read_text, bad_text, appends_as}
 use borrow.Author.Rules.{rules}
 use Rattle.sheet.proofs.answer.answer_read.Goals as goal
 
--- the lists stand in their buffers
-fits : (c : goal.In-Whole-2) → (c.in-Whole.many ≤ length c.read_sheet-parsed.new.places) × (c.in-Whole.count ≤ length c.read_sheet-parsed.new.message)
-fits c = (rw c.in-Whole.is at c.read_sheet-parsed.ensures.places_within, rw c.in-Whole.is at c.read_sheet-parsed.ensures.symbols_within)
-
 pub returns-in_default : goal.returns-in_default
 returns-in_default c =
     (appends_as (bad_text c.args.s.now (sym (ap (sheet_in c.read_sheet-parsed.new.places c.read_sheet-parsed.new.message) c.in_default.is) ∙ c.read_sheet-parsed.ensures.reads)) c.write_refusal.ensures, omega (arith, c.write_refusal.ensures.count, refusal_few SheetShape))
 
+-- the lists stand in their buffers
+fits : (c : goal.In-Whole) → (c.in-Whole.many ≤ length c.read_sheet-parsed.new.places) × (c.in-Whole.count ≤ length c.read_sheet-parsed.new.message)
+fits c = (rw c.in-Whole.is at c.read_sheet-parsed.ensures.places_within, rw c.in-Whole.is at c.read_sheet-parsed.ensures.symbols_within)
+
 pub slice_bounds-answer_job-end : goal.slice_bounds-answer_job-end
-slice_bounds-answer_job-end c = (fits c?).0
+slice_bounds-answer_job-end c = (fits c).0
 
 pub slice_bounds-answer_job-end-2 : goal.slice_bounds-answer_job-end-2
-slice_bounds-answer_job-end-2 c = sym (length-take-le c.in-Whole.many c.read_sheet-parsed.new.places (fits c?).0)
+slice_bounds-answer_job-end-2 c = sym (length-take-le c.in-Whole.many c.read_sheet-parsed.new.places (fits c).0)
 
 pub slice_bounds-answer_job-end-3 : goal.slice_bounds-answer_job-end-3
-slice_bounds-answer_job-end-3 c = (fits c?).1
+slice_bounds-answer_job-end-3 c = (fits c).1
 
 pub slice_bounds-answer_job-end-4 : goal.slice_bounds-answer_job-end-4
-slice_bounds-answer_job-end-4 c = sym (length-take-le c.in-Whole.count c.read_sheet-parsed.new.message (fits c?).1)
+slice_bounds-answer_job-end-4 c = sym (length-take-le c.in-Whole.count c.read_sheet-parsed.new.message (fits c).1)
 
 pub returns : goal.returns
 returns c =

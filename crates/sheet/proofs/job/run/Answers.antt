@@ -12,24 +12,24 @@ use Rattle.sheet.proofs.Jobs.{too_large}
 use borrow.Author.Rules.{rules}
 use Rattle.sheet.proofs.job.run.Goals as goal
 
-field-ok : (c : goal.Else-not-is_field) → is_field c.args.head.field ≡ true
-field-ok c = sym c.is_field.ensures ∙ not-false _ c.if-not-is_field.false
-
 pub returns-then-head-ge256 : goal.returns-then-head-ge256
 unfolding job_outcome code_for
 returns-then-head-ge256 c = stops _ (no_field c.args.head.field c.if-head-ge256.true)
 
 pub returns-then-not-is_field : goal.returns-then-not-is_field
 unfolding job_outcome code_for
-returns-then-not-is_field c = stops _ (sym c.is_field.ensures ∙ not-true _ c.if-not-is_field.true)
+returns-then-not-is_field c = stops _ (sym c.is_field.ensures ∙ c.if-not-is_field.true)
+
+field-ok : (c : goal.Then-not-is_small) → is_field c.args.head.field ≡ true
+field-ok c = sym c.is_field.ensures ∙ c.if-not-is_field.false
 
 pub returns-then-not-is_small : goal.returns-then-not-is_small
 unfolding job_outcome code_for coefficients_below
 returns-then-not-is_small c =
-    passes _ (field-ok c.before.before) (stops _ (too_large c.args.head.field (curve_of c.args.head) (is_field_lem c.args.head.field (field-ok c.before.before)) (sym c.is_small.ensures ∙ not-true _ c.if-not-is_small.true)))
+    passes _ (field-ok c) (stops _ (too_large c.args.head.field (curve_of c.args.head) (is_field_lem c.args.head.field (field-ok c)) (sym c.is_small.ensures ∙ c.if-not-is_small.true)))
 
 pub parameters-requires : goal.parameters-requires
-parameters-requires c = (omega (arith, c.if-head-ge256.false), sym c.is_small.ensures ∙ not-false _ c.if-not-is_small.false)
+parameters-requires c = (omega (arith, c.if-head-ge256.false), sym c.is_small.ensures ∙ c.if-not-is_small.false)
 
 pub returns : goal.returns
 unfolding job_outcome code_for

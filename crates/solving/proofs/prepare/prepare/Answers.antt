@@ -14,18 +14,26 @@ pub test_lists-tested-requires : goal.test_lists-tested-requires
 test_lists-tested-requires c = c.requires.ys_value
 
 -- the tests were passed
-passed : (c : goal.In-Done) → lists_answer (code_of c.args.p c.args.xs.now c.args.ys.now) c.args.places.now c.args.symbols.now ≡ Done
+passed : (c : goal.After-solve-arg-1) → lists_answer (code_of c.args.p c.args.xs.now c.args.ys.now) c.args.places.now c.args.symbols.now ≡ Done
 passed c = sym c.test_lists-tested.ensures ∙ c.in-Done.is
 
 pub solve-requires : goal.solve-requires
 solve-requires c =
-    record { tables = c.requires.tables; posed = (posed _ _ _ (passed c.before) c.requires.ys_value c.requires.symbols_len.0, c.requires.symbols_len.1) }
+    record { tables = c.requires.tables; posed = (posed _ _ _ (passed c) c.requires.ys_value c.requires.symbols_len.0, c.requires.symbols_len.1) }
+
+-- the tests were passed
+passed_2 : (c : goal.Then-not-solve) → lists_answer (code_of c.args.p c.args.xs.now c.args.ys.now) c.args.places.now c.args.symbols.now ≡ Done
+passed_2 c = sym c.test_lists-tested.ensures ∙ c.in-Done.is
 
 pub returns-then-not-solve : goal.returns-then-not-solve
-returns-then-not-solve c = prepared_not _ _ _ (passed c.before.before.before.before.before) c.solve.ensures (not-true _ c.if-not-solve.true)
+returns-then-not-solve c = prepared_not _ _ _ (passed_2 c) c.solve.ensures (c.if-not-solve.true)
+
+-- the tests were passed
+passed_3 : (c : goal.Else-not-solve) → lists_answer (code_of c.args.p c.args.xs.now c.args.ys.now) c.args.places.now c.args.symbols.now ≡ Done
+passed_3 c = sym c.test_lists-tested.ensures ∙ c.in-Done.is
 
 pub returns-in-Done : goal.returns-in-Done
-returns-in-Done c = prepared_done _ _ _ (passed c.before.before.before.before.before) c.solve.ensures (not-false _ c.if-not-solve.false)
+returns-in-Done c = prepared_done _ _ _ (passed_3 c) c.solve.ensures (c.if-not-solve.false)
 
 pub returns : goal.returns
 returns c = prepared_stop _ _ _ c.test_lists-tested.ensures (λ d. ⊎_elim (λ e. omega (arith, e)) (λ e. omega (arith, e)) (rw d at c.in_default.in_default-own.keys2))

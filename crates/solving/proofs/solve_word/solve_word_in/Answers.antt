@@ -18,7 +18,7 @@ solve_laid-requires c =
     record { tables = c.requires.tables; posed = (c.requires.posed.0, c.lay_out.ensures.0, c.requires.px_len.3 ∙ sym c.lay_out.ensures.0.firsts.size) }
 
 pub returns-then-not-solve_laid : goal.returns-then-not-solve_laid
-returns-then-not-solve_laid c = unsolved (sym c.solve_laid.ensures.free ∙ not-true _ c.if-not-solve_laid.true)
+returns-then-not-solve_laid c = unsolved (sym c.solve_laid.ensures.free ∙ c.if-not-solve_laid.true)
 
 pub restore-requires : goal.restore-requires
 restore-requires c =
@@ -34,4 +34,4 @@ restore-requires c =
 
 pub returns : goal.returns
 returns c =
-    restores _ c.requires.posed.0.placed c.lay_out.ensures.0.firsts c.lay_out.ensures.0.seconds c.solve_laid.ensures (not-false _ c.if-not-solve_laid.false) c.restore.ensures
+    restores _ c.requires.posed.0.placed c.lay_out.ensures.0.firsts c.lay_out.ensures.0.seconds c.solve_laid.ensures (c.if-not-solve_laid.false) c.restore.ensures

@@ -11,11 +11,11 @@ returns-then-s-start c = no_number _ _ c.if-s-start.true
 
 pub returns-then-not-is_digit : goal.returns-then-not-is_digit
 returns-then-not-is_digit c =
-    no_digit c.args.s.now c.args.start (omega arith) (sym c.is_digit.ensures ∙ not-true _ c.if-not-is_digit.true)
+    no_digit c.args.s.now c.args.start (omega arith) (sym c.is_digit.ensures ∙ c.if-not-is_digit.true)
 
 pub digit-requires : goal.digit-requires
-digit-requires c = sym c.is_digit.ensures ∙ not-false _ c.if-not-is_digit.false
+digit-requires c = sym c.is_digit.ensures ∙ c.if-not-is_digit.false
 
 pub returns : goal.returns
 returns c =
-    c.more_digits.ensures ∙ rw c.digit.ensures.0 (first_digit c.args.s.now c.args.start (omega arith) (sym c.is_digit.ensures ∙ not-false _ c.if-not-is_digit.false))
+    c.more_digits.ensures ∙ rw c.digit.ensures.0 (first_digit c.args.s.now c.args.start (omega arith) (sym c.is_digit.ensures ∙ c.if-not-is_digit.false))

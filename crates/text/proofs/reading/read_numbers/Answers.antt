@@ -10,11 +10,6 @@ use Rattle.text.proofs.Numbers.{full, no_more, last_number, next_number, start, 
 use borrow.Author.Rules.{rules}
 use Rattle.text.proofs.reading.read_numbers.Goals as goal
 
--- a number was read
-is_number : (c : goal.In-Value-2) →
- number (drop c.loop-count.at c.args.s.now) ≡ got c.in-Value.value (drop c.in-Value.next c.args.s.now)
-is_number c = sym c.read_number-read.ensures ∙ ap (number_in c.args.s.now) c.in-Value.is
-
 pub loop-count-init : goal.loop-count-init
 loop-count-init c = (refl, omega arith, start _ _)
 
@@ -30,15 +25,25 @@ returns-in_default c =
 pub shape_of-out-then-not-is_next : goal.shape_of-out-then-not-is_next
 shape_of-out-then-not-is_next c = rw length-set c.loop-count.invariant.0
 
+-- a number was read
+is_number : (c : goal.Then-not-is_next) →
+ number (drop c.loop-count.at c.args.s.now) ≡ got c.in-Value.value (drop c.in-Value.next c.args.s.now)
+is_number c = sym c.read_number-read.ensures ∙ ap (number_in c.args.s.now) c.in-Value.is
+
 pub returns-then-not-is_next : goal.returns-then-not-is_next
 returns-then-not-is_next c =
     lists_last c.args.s.now c.loop-count.out c.loop-count.count c.in-Value.value c.in-Value.next (omega arith)
     (last_number (length c.args.out.now) c.loop-count.count (take c.loop-count.count c.loop-count.out) (drop c.loop-count.at c.args.s.now) c.loop-count.invariant.2 (omega arith) c.in-Value.value _
-    (is_number c?) (sym c.is_next.ensures ∙ not-true _ c.if-not-is_next.true))
+    (is_number c) (sym c.is_next.ensures ∙ c.if-not-is_next.true))
 
 pub overflow_add-at : goal.overflow_add-at
 overflow_add-at c =
-    omega (arith, next_there _ c.args.s.now c.in-Value.next (sym c.is_next.ensures ∙ not-false _ c.if-not-is_next.false))
+    omega (arith, next_there _ c.args.s.now c.in-Value.next (sym c.is_next.ensures ∙ c.if-not-is_next.false))
+
+-- a number was read
+is_number_2 : (c : goal.Else-not-is_next) →
+ number (drop c.loop-count.at c.args.s.now) ≡ got c.in-Value.value (drop c.in-Value.next c.args.s.now)
+is_number_2 c = sym c.read_number-read.ensures ∙ ap (number_in c.args.s.now) c.in-Value.is
 
 pub loop-count-preserved : goal.loop-count-preserved
 loop-count-preserved c =
@@ -47,7 +52,7 @@ loop-count-preserved c =
       rw length-set (omega arith),
       rw (one_set c.loop-count.out c.loop-count.count c.in-Value.value (omega arith), ← behind c.args.s.now c.in-Value.next)
           (next_number (length c.args.out.now) c.loop-count.count (take c.loop-count.count c.loop-count.out) (drop c.loop-count.at c.args.s.now) c.loop-count.invariant.2 (omega arith) c.in-Value.value _
-          (is_number c?) (sym c.is_next.ensures ∙ not-false _ c.if-not-is_next.false)),
+          (is_number_2 c) (sym c.is_next.ensures ∙ c.if-not-is_next.false)),
     )
 
 pub shape_of-out : goal.shape_of-out

@@ -34,7 +34,7 @@ save-requires c =
     record { tables = c.requires.tables.0; slots_len = (c.loop-i.invariant.1.size, room) }
 
 -- a trust is a byte
-trust-lt : (c : goal.In-loop-i) → get_or c.args.trusts.now c.loop-i.i 0 < 256
+trust-lt : (c : goal.After-save) → get_or c.args.trusts.now c.loop-i.i 0 < 256
 trust-lt c = omega (arith, c.type_inv.trusts c.loop-i.i)
 
 pub overflow_add-cost : goal.overflow_add-cost
@@ -46,7 +46,7 @@ overflow_add-cost c =
         c.loop-i.invariant.1.low,
         c.loop-i.invariant.0,
         c.requires.difference_len.3,
-        trust-lt c.before.before.before.before.before.before.before.before,
+        trust-lt c,
         c.always-more.ensures,
         always_le (galois c.args.m) (get_or c.args.trusts.now c.loop-i.i 0) (get_or c.args.row.now c.loop-i.i 0) x,
       );
@@ -64,7 +64,7 @@ loop-i-preserved c =
     (
       omega (arith, c.loop-i-test.true),
       pass_turn c.args.m c.args.half c.args.log c.args.trusts.now c.args.row.now c.args.late.now c.args.difference.now c.loop-i.invariant.1 c.requires.difference_len.2 c.requires.difference_len.1 c.requires.difference_len.0 c.loop-i-test.true
-          (trust-lt c.before.before.before.before.before.before.before.before) c.product_by_log.ensures c.always-more.ensures c.save.ensures,
+          (trust-lt c) c.product_by_log.ensures c.always-more.ensures c.save.ensures,
     )
 
 pub returns : goal.returns

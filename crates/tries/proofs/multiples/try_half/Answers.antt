@@ -15,7 +15,7 @@ pub gather-fixed-requires : goal.gather-fixed-requires
 gather-fixed-requires c =
     record { tables = (c.requires.tables, rw c.logarithm-log.ensures (is_log c.requires.tables.field c.args.d (omega (arith, c.requires.rows.1, size_le c.requires.tables.field)))); difference_len = (c.requires.rows.0.differences, c.requires.rows.0.lates, c.requires.rows.0.rows, c.requires.rows.0.most, refl) }
 
-gathered : (c : goal.After-gather-fixed) →
+gathered : (c : goal.After-slots-2-1) →
  Gathered c.args.m c.args.half c.args.trusts.now c.args.row.now (add_scaled (galois c.args.m) c.args.d c.args.late.now c.args.difference.now)
  c.gather-fixed.result c.gather-fixed.new.slots
 gathered c =
@@ -24,9 +24,16 @@ gathered c =
 
 pub choose-requires : goal.choose-requires
 choose-requires c =
-    (c.requires.rows.2.ordered, c.requires.rows.2.most, c.requires.rows.2.is_half, within c.requires.tables.field c.requires.rows.0 c.args.d (gathered c.before) c.requires.rows.2)
+    (c.requires.rows.2.ordered, c.requires.rows.2.most, c.requires.rows.2.is_half, within c.requires.tables.field c.requires.rows.0 c.args.d (gathered c) c.requires.rows.2)
+
+gathered_2 : (c : goal.After-choose) →
+ Gathered c.args.m c.args.half c.args.trusts.now c.args.row.now (add_scaled (galois c.args.m) c.args.d c.args.late.now c.args.difference.now)
+ c.gather-fixed.result c.gather-fixed.new.slots
+gathered_2 c =
+    c.gather-fixed.ensures c.args.d (λ b.
+    ap (λ k. product_by_log c.args.m k b) c.logarithm-log.ensures ∙ by_log c.requires.tables.field c.args.d b (omega (arith, c.requires.rows.1, size_le c.requires.tables.field)))
 
 pub returns : goal.returns
 returns c =
-    slots_tell c.requires.tables.field c.requires.rows.0 c.args.d (gathered c.before.before) c.requires.rows.2
+    slots_tell c.requires.tables.field c.requires.rows.0 c.args.d (gathered_2 c) c.requires.rows.2
     (c.args.best.cost, c.args.best.e) c.choose.ensures

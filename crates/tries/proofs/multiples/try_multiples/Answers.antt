@@ -10,36 +10,51 @@ use Rattle.tries.proofs.Choosing.{tried_one, tried_both, in_one, in_low, in_high
 use borrow.Author.Rules.{rules}
 use Rattle.tries.proofs.multiples.try_multiples.Goals as goal
 
-counted : (c : goal.Joined-most-all) → c.if-most-all.count ≡ min c.args.most (size c.args.m - 1)
+count_le : (c : goal.After-row_known-1) → c.if-most-all.count ≤ size c.args.m - 1
+count_le c =
+    ⊎_elim (λ w. omega (arith, w.1, w.0.taken, c.size-all.ensures)) (λ w. omega (arith, w.1, w.0.left, c.size-all.ensures)) c.if-most-all.branch
+
+pub try_half-requires : goal.try_half-requires
+try_half-requires c =
+    record { tables = c.requires.tables; rows = (c.requires.rows.0, c.requires.rows.1, in_one c.requires.tables.field (count_le c) c.if-count-lt128.true) }
+
+counted : (c : goal.After-try_half) → c.if-most-all.count ≡ min c.args.most (size c.args.m - 1)
 counted c =
     ⊎_elim
     (λ w. w.1 ∙ sym (min-eq_left (omega (arith, w.0.taken, c.size-all.ensures))))
     (λ w. w.1 ∙ ap (λ n. n - 1) c.size-all.ensures ∙ sym (min-eq_right (omega (arith, w.0.left, c.size-all.ensures))))
     c.if-most-all.branch
 
-count_le : (c : goal.Joined-most-all) → c.if-most-all.count ≤ size c.args.m - 1
-count_le c =
-    ⊎_elim (λ w. omega (arith, w.1, w.0.taken, c.size-all.ensures)) (λ w. omega (arith, w.1, w.0.left, c.size-all.ensures)) c.if-most-all.branch
-
-pub try_half-requires : goal.try_half-requires
-try_half-requires c =
-    record { tables = c.requires.tables; rows = (c.requires.rows.0, c.requires.rows.1, in_one c.requires.tables.field (count_le c.before.before) c.if-count-lt128.true) }
-
 pub returns-then-count-lt128 : goal.returns-then-count-lt128
 returns-then-count-lt128 c =
     tried_one (galois c.args.m) c.args.trusts.now c.args.row.now (add_scaled (galois c.args.m) c.args.d c.args.late.now c.args.difference.now)
-    c.args.cost c.if-most-all.count (min c.args.most (size c.args.m - 1)) (counted c.before.before.before) c.try_half.ensures
+    c.args.cost c.if-most-all.count (min c.args.most (size c.args.m - 1)) (counted c) c.try_half.ensures
+
+count_le_2 : (c : goal.Else-count-lt128) → c.if-most-all.count ≤ size c.args.m - 1
+count_le_2 c =
+    ⊎_elim (λ w. omega (arith, w.1, w.0.taken, c.size-all.ensures)) (λ w. omega (arith, w.1, w.0.left, c.size-all.ensures)) c.if-most-all.branch
 
 pub try_half-first-requires : goal.try_half-first-requires
 try_half-first-requires c =
-    record { tables = c.requires.tables; rows = (c.requires.rows.0, c.requires.rows.1, in_low c.requires.tables.field (count_le c.before) c.if-count-lt128.false) }
+    record { tables = c.requires.tables; rows = (c.requires.rows.0, c.requires.rows.1, in_low c.requires.tables.field (count_le_2 c) c.if-count-lt128.false) }
+
+count_le_3 : (c : goal.After-row_known-2-1) → c.if-most-all.count ≤ size c.args.m - 1
+count_le_3 c =
+    ⊎_elim (λ w. omega (arith, w.1, w.0.taken, c.size-all.ensures)) (λ w. omega (arith, w.1, w.0.left, c.size-all.ensures)) c.if-most-all.branch
 
 pub try_half-requires-2 : goal.try_half-requires-2
 try_half-requires-2 c =
-    record { tables = c.requires.tables; rows = (c.requires.rows.0, c.requires.rows.1, in_high c.requires.tables.field (count_le c.before.before.before) c.if-count-lt128.false) }
+    record { tables = c.requires.tables; rows = (c.requires.rows.0, c.requires.rows.1, in_high c.requires.tables.field (count_le_3 c) c.if-count-lt128.false) }
+
+counted_2 : (c : goal.After-try_half-2) → c.if-most-all.count ≡ min c.args.most (size c.args.m - 1)
+counted_2 c =
+    ⊎_elim
+    (λ w. w.1 ∙ sym (min-eq_left (omega (arith, w.0.taken, c.size-all.ensures))))
+    (λ w. w.1 ∙ ap (λ n. n - 1) c.size-all.ensures ∙ sym (min-eq_right (omega (arith, w.0.left, c.size-all.ensures))))
+    c.if-most-all.branch
 
 pub returns : goal.returns
 returns c =
     tried_both (galois c.args.m) c.args.trusts.now c.args.row.now (add_scaled (galois c.args.m) c.args.d c.args.late.now c.args.difference.now)
-    c.args.cost 127 c.if-most-all.count (min c.args.most (size c.args.m - 1)) refl c.if-count-lt128.false (counted c.before.before.before.before)
+    c.args.cost 127 c.if-most-all.count (min c.args.most (size c.args.m - 1)) refl c.if-count-lt128.false (counted_2 c)
     c.try_half-first.ensures c.try_half-2.ensures
