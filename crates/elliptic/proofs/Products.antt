@@ -89,9 +89,11 @@ module _ {F : Arithmetic} (K : Field F) where
       ∙ ap (λ u. u ⊕ α · evaluate F (c ∷ cs) P) (evaluate_x (c ∷ cs) P) ∙ sum_step P.x α _
 
   pub evaluate_raised : {l n : ℕ} {f : List ℕ} (α : ℕ) → Lead F l n f → (P : Point) → evaluate F (raised F α f) P ≡ (P.x ⊕ α) · evaluate F f P
+  evaluate_raised {l = l} {n = n} {f = []} α t P = elim t [ ]
   evaluate_raised {f = c ∷ cs} α t P = evaluate_raised_some α (c ∷ cs) (omega arith) P
 
   pub lead_raised : {l n : ℕ} {f : List ℕ} (α : ℕ) → Lead F l n f → (m : ℕ) × (weight m ≡ weight n + 2) × Lead F l m (raised F α f)
+  lead_raised {l = l} {n = n} {f = []} α t = elim t [ ]
   lead_raised {l} {n} {f = c ∷ cs} α t =
       let (m, e, v) = lead_x t in
       let heavier : n < m = weight_less n m (omega arith) in

@@ -36,7 +36,7 @@ module _ {A : Type 0} (price : A → ℕ) where
   cheapest_first a (b ∷ l) = le_trans (cheapest_first (cheaper price a b) l) (cheaper_is a b).first
 
   -- none of the list is cheaper
-  pub cheapest_le : (a : A) {b : A} {l : List A} → In b l → price (cheapest price a l) ≤ price b
+  pub cheapest_le : {b : A} (a : A) {l : List A} → In b l → price (cheapest price a l) ≤ price b
   unfolding cheapest
   cheapest_le a (here {x = c} {xs = l} e) =
       subst (λ b. price (cheapest price (cheaper price a c) l) ≤ price b) (sym e) (le_trans (cheapest_first (cheaper price a c) l) (cheaper_is a c).second)

@@ -13,4 +13,4 @@ status-requires c =
     rw c.means.ensures.answers (means_counts c.args.stamps.now c.args.readings.now c.args.first (length c.args.out.now))
 
 pub returns : goal.returns
-returns c = report c.means.ensures (to_z-of_z w32 c.status.result (record { sfits = c.status.type-inv }) ∙ c.status.ensures)
+returns c = report c.means.ensures (to_z-of_z w32 c.status.result (record { sfits = c.status.type_inv }) ∙ c.status.ensures)

@@ -15,4 +15,4 @@ status-requires c =
 pub returns : goal.returns
 returns c =
     report (rw c.parameters-parts.ensures at c.pick.ensures)
-    (to_z-of_z w32 c.status.result (record { sfits = c.status.type-inv }) ∙ c.status.ensures)
+    (to_z-of_z w32 c.status.result (record { sfits = c.status.type_inv }) ∙ c.status.ensures)

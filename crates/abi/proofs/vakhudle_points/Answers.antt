@@ -13,4 +13,4 @@ status-requires c =
     rw c.points.ensures.answers (points_counts c.args.field (curve_of c.args.g1 c.args.g2 c.args.g3 c.args.g4 c.args.g6) c.args.xs.now c.args.ys.now)
 
 pub returns : goal.returns
-returns c = report c.points.ensures (to_z-of_z w32 c.status.result (record { sfits = c.status.type-inv }) ∙ c.status.ensures)
+returns c = report c.points.ensures (to_z-of_z w32 c.status.result (record { sfits = c.status.type_inv }) ∙ c.status.ensures)

@@ -13,4 +13,4 @@ status-requires c =
     rw c.products.ensures.answers (products_counts c.args.field c.args.a.now c.args.b.now (length c.args.out.now))
 
 pub returns : goal.returns
-returns c = report c.products.ensures (to_z-of_z w32 c.status.result (record { sfits = c.status.type-inv }) ∙ c.status.ensures)
+returns c = report c.products.ensures (to_z-of_z w32 c.status.result (record { sfits = c.status.type_inv }) ∙ c.status.ensures)

@@ -17,4 +17,4 @@ pub returns : goal.returns
 returns c =
     let met = rw (to_z-of_z w16 c.args.mean c.ranges.mean) at c.rolling.ensures in
     report {o = rolling_outcome c.args.state.now c.args.hour c.args.mean c.args.out.now} met
-    (to_z-of_z w32 c.status.result (record { sfits = c.status.type-inv }) ∙ c.status.ensures)
+    (to_z-of_z w32 c.status.result (record { sfits = c.status.type_inv }) ∙ c.status.ensures)

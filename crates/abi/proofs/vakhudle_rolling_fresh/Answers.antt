@@ -12,4 +12,4 @@ status-requires c =
     rw c.rolling_fresh.ensures.answers (fresh_counts c.args.out.now)
 
 pub returns : goal.returns
-returns c = report c.rolling_fresh.ensures (to_z-of_z w32 c.status.result (record { sfits = c.status.type-inv }) ∙ c.status.ensures)
+returns c = report c.rolling_fresh.ensures (to_z-of_z w32 c.status.result (record { sfits = c.status.type_inv }) ∙ c.status.ensures)

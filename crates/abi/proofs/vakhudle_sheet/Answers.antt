@@ -11,4 +11,4 @@ pub status-requires : goal.status-requires
 status-requires c = omega (arith, c.answer_sheet.ensures.few)
 
 pub returns : goal.returns
-returns c = report c.answer_sheet.ensures.meets (to_z-of_z w32 c.status.result (record { sfits = c.status.type-inv }) ∙ c.status.ensures)
+returns c = report c.answer_sheet.ensures.meets (to_z-of_z w32 c.status.result (record { sfits = c.status.type_inv }) ∙ c.status.ensures)

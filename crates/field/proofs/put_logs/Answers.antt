@@ -19,7 +19,7 @@ loop-i-preserved c =
     let entry : c.widened.result ≡ get_or (log_table c.args.m) c.loop-i.i 0 =
     c.widened.ensures ∙ rw c.requires.1 (wide_byte c.requires.0 c.loop-i.i below) ∙ sym (log_at_byte c.args.m c.loop-i.i below) in
     let turn = paste_turn c.args.out.now 0 (log_table c.args.m) c.loop-i.i (omega arith) (omega (arith, length_logs c.args.m)) c.loop-i.invariant.1 entry in
-    (omega arith, rw zero-add c turn)
+    (omega arith, rw zero-add at turn)
 
 pub returns : goal.returns
 returns c =

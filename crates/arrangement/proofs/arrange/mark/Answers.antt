@@ -27,7 +27,7 @@ bounds-free-i c =
 
 pub loop-j-preserved : goal.loop-j-preserved
 loop-j-preserved c =
-    let places = rw (← c.fill_ones.auto.out) c.loop-j c.requires.0 in
+    let places = rw (← c.fill_ones.auto.out) at c.requires.0 in
     let index : c.index_of-i.result ≡ get_or c.args.places.now c.loop-j.j 0 - 1 = c.index_of-i.ensures ∙ ap (λ p. p - 1) c.chosen_place-place.ensures in
     (omega arith, simp length-set c.loop-j.invariant.1, rw index (free_turn c.args.places.now _ c.loop-j.j places c.loop-j-test.true c.loop-j.invariant.2))
 

@@ -31,12 +31,20 @@ pub slice_bounds-row-end-2 : goal.slice_bounds-row-end-2
 slice_bounds-row-end-2 c =
     lent_again c.search-found.new.early_row (drop (length c.args.xs.now) (replicate 288 0)) (c.search-found.auto.early_row ∙ length-take-le _ _ (few_3 c))
 
+few_4 : (c : goal.After-row-3-1) → length c.args.xs.now ≤ 288
+few_4 c = (accepted_done _ c.requires.prepared.0.given.done).n_most
+
 pub slice_bounds-write_word-end : goal.slice_bounds-write_word-end
-slice_bounds-write_word-end c = sym (length-take-le _ _ (array-borrow-prefix-row-2 c))
+slice_bounds-write_word-end c = sym (length-take-le _ _ ((
+    lent_again c.search-found.new.early_row (drop (length c.args.xs.now) (replicate 288 0)) (c.search-found.auto.early_row ∙ length-take-le _ _ (few_4 c)))))
+
+few_5 : (c : goal.After-write_word-arg-1) → length c.args.xs.now ≤ 288
+few_5 c = (accepted_done _ c.requires.prepared.0.given.done).n_most
 
 pub write_word-requires : goal.write_word-requires
 write_word-requires c =
-    record { tables = c.requires.tables; prepared = (c.requires.prepared.0, c.search-found.ensures.is_try, length-take-le _ _ (array-borrow-prefix-row-2 c), c.search-found.auto.late_row ∙ c.requires.prepared.1) }
+    record { tables = c.requires.tables; prepared = (c.requires.prepared.0, c.search-found.ensures.is_try, length-take-le _ _ ((
+    lent_again c.search-found.new.early_row (drop (length c.args.xs.now) (replicate 288 0)) (c.search-found.auto.early_row ∙ length-take-le _ _ (few_5 c)))), c.search-found.auto.late_row ∙ c.requires.prepared.1) }
 
 pub returns : goal.returns
 returns c = found_best c.search-found.ensures c.write_word.ensures

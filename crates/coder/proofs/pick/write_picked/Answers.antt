@@ -28,4 +28,4 @@ returns c =
     let end = length c.args.out.now - 1 in
     let full : c.loop-i.i ≡ end = omega arith in
     sym (take_all (suc end) (set c.loop-i.out end c.chosen_place-place-2.result.0) (simp length-set (omega arith))) ∙ take-suc-set c.loop-i.out end c.chosen_place-place-2.result.0 (omega arith)
-    ∙ ap (λ l. l ++ c.chosen_place-place-2.result.0 ∷ []) (rw full c c.loop-i.invariant.2) ∙ ap (λ c.chosen_place-place-2.result.0. take end c.args.ranked.now ++ c.chosen_place-place-2.result.0 ∷ []) c.chosen_place-place-2.ensures
+    ∙ ap (λ l. l ++ c.chosen_place-place-2.result.0 ∷ []) (rw full at c.loop-i.invariant.2) ∙ ap (λ c.chosen_place-place-2.result.0. take end c.args.ranked.now ++ c.chosen_place-place-2.result.0 ∷ []) c.chosen_place-place-2.ensures

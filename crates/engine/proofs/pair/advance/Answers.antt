@@ -13,9 +13,6 @@ slice_bounds-value-end-2 c = sym (length-take-le _ _ (omega arith))
 pub slice_bounds-gain-end-2 : goal.slice_bounds-gain-end-2
 slice_bounds-gain-end-2 c = sym (length-take-le _ _ (omega arith))
 
-pub gain-second-requires : goal.gain-second-requires
-gain-second-requires c = record { tables = c.requires.tables; n_in_bounds = omega (arith, c.requires.room.0, slice-aggregate-gain c) }
-
 pub raise-first-requires : goal.raise-first-requires
 raise-first-requires c = record { tables = c.requires.tables; n_nonzero = omega (arith, c.requires.room.0) }
 

@@ -15,7 +15,7 @@ pub slice_bounds-add_scaled-end-then-n-k : goal.slice_bounds-add_scaled-end-then
 slice_bounds-add_scaled-end-then-n-k c = sym (length-take-le _ _ (omega (arith, c.extend.auto.f)))
 
 pub add_scaled-requires : goal.add_scaled-requires
-add_scaled-requires c = record { tables = search rules; h_in_bounds = le_of_eq (slice-aggregate-add-scaled c) }
+add_scaled-requires c = record { tables = search rules; h_in_bounds = le_of_eq (slice_bounds-add_scaled-end-then-n-k c) }
 
 pub returns-then-n-k : goal.returns-then-n-k
 returns-then-n-k c =
@@ -26,7 +26,7 @@ pub slice_bounds-add_scaled-end-3 : goal.slice_bounds-add_scaled-end-3
 slice_bounds-add_scaled-end-3 c = sym (length-take-le _ _ (omega arith))
 
 pub add_scaled-requires-2 : goal.add_scaled-requires-2
-add_scaled-requires-2 c = record { tables = search rules; h_in_bounds = omega (arith, slice-aggregate-add-scaled-2 c) }
+add_scaled-requires-2 c = record { tables = search rules; h_in_bounds = omega (arith, slice_bounds-add_scaled-end-3 c) }
 
 pub returns : goal.returns
 returns c =

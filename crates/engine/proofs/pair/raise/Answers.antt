@@ -14,12 +14,12 @@ pub slice_bounds-times_linear-end : goal.slice_bounds-times_linear-end
 slice_bounds-times_linear-end c = omega (arith, growth_le c.args.n, c.grown-k.ensures, c.extend.auto.f)
 
 pub slice_bounds-times_linear-end-2 : goal.slice_bounds-times_linear-end-2
-slice_bounds-times_linear-end-2 c = sym (length-take-le _ _ (slice-relend-prefix-times-linear c))
+slice_bounds-times_linear-end-2 c = sym (length-take-le _ _ ((omega (arith, growth_le c.args.n, c.grown-k.ensures, c.extend.auto.f))))
 
 pub times_linear-requires : goal.times_linear-requires
-times_linear-requires c = record { tables = search rules; f_nonzero = omega (arith, slice-aggregate-times-linear c, c.grown-k.ensures) }
+times_linear-requires c = record { tables = search rules; f_nonzero = omega (arith, slice_bounds-times_linear-end-2 c, c.grown-k.ensures) }
 
 pub returns : goal.returns
 returns c =
-    lent c.extend.new.f _ c.grown-k.result _ (slice-relend-prefix-times-linear c) c.times_linear.auto.f
+    lent c.extend.new.f _ c.grown-k.result _ ((omega (arith, growth_le c.args.n, c.grown-k.ensures, c.extend.auto.f))) c.times_linear.auto.f
     (c.times_linear.ensures ∙ rw c.extend.ensures (raised_as _ c.args.alpha c.args.n c.grown-k.result c.args.f.now (omega arith) c.grown-k.ensures))

@@ -16,9 +16,6 @@ slice_bounds-value-end-2 c = sym (length-take-le _ _ (omega arith))
 pub slice_bounds-complete-end-then-at_l-eq0 : goal.slice_bounds-complete-end-then-at_l-eq0
 slice_bounds-complete-end-then-at_l-eq0 c = sym (length-take-le _ _ (omega (arith, c.requires.room)))
 
-pub complete-word-requires : goal.complete-word-requires
-complete-word-requires c = record { tables = c.requires.tables; n_in_bounds = omega (arith, c.requires.room, slice-aggregate-complete c) }
-
 pub raise-raised-requires : goal.raise-raised-requires
 raise-raised-requires c = record { tables = c.requires.tables; n_nonzero = omega (arith, c.requires.room) }
 
@@ -32,9 +29,6 @@ returns-then-at_l-eq0 c =
 
 pub slice_bounds-correct-end-2 : goal.slice_bounds-correct-end-2
 slice_bounds-correct-end-2 c = sym (length-take-le _ _ (omega (arith, c.requires.room)))
-
-pub correct-word-requires : goal.correct-word-requires
-correct-word-requires c = record { tables = c.requires.tables; n_in_bounds = (omega (arith, c.requires.room), omega (arith, c.requires.room, slice-aggregate-correct c), c.value-at_l.ensures) }
 
 pub advance-pair-requires : goal.advance-pair-requires
 advance-pair-requires c = record { tables = c.requires.tables; room = (c.requires.room.0, c.value-at_l.ensures) }

@@ -25,4 +25,4 @@ product_by_log-requires-2 c = (c.requires, logged c.requires.field c.ranges.x.fi
 pub returns : goal.returns
 returns c =
     let one : c.loop-i.i ≡ 1 = omega arith in
-    value_end _ _ _ _ _ _ _ _ (omega arith) (by_logged c.requires.field c.ranges.x.fits c.logarithm-by_x.ensures _ c.product_by_log-2.ensures) c.product.ensures (rw one c c.loop-i.invariant.2)
+    value_end _ _ _ _ _ _ _ _ (omega arith) (by_logged c.requires.field c.ranges.x.fits c.logarithm-by_x.ensures _ c.product_by_log-2.ensures) c.product.ensures (rw one at c.loop-i.invariant.2)

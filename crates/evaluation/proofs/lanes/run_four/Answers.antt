@@ -25,4 +25,4 @@ loop-i-preserved c =
 pub returns : goal.returns
 returns c =
     let one : c.loop-i.i ≡ 1 = omega arith in
-    (rw one c.loop-i c.loop-i.invariant.2, c.loop-i.invariant.3)
+    (rw one at c.loop-i.invariant.2, c.loop-i.invariant.3)

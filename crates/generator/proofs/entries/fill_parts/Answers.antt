@@ -40,7 +40,7 @@ pub bounds-sums-s : goal.bounds-sums-s
 bounds-sums-s c = omega (arith, c.loop-s-test.true, c.loop-s.invariant.2.size, c.requires.slots.0.sum_size)
 
 pub bounds-sums-s-in-loop-s : goal.bounds-sums-s-in-loop-s
-bounds-sums-s-in-loop-s c = slice-read-sums c
+bounds-sums-s-in-loop-s c = (omega (arith, c.loop-s-test.true, c.loop-s.invariant.2.size, c.requires.slots.0.sum_size))
 
 pub overflow_add-s : goal.overflow_add-s
 overflow_add-s c = record { fits = omega (arith, c.loop-s-test.true, c.requires.slots.0.most) }

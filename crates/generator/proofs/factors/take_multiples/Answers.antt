@@ -54,4 +54,4 @@ shape_of-a c = c.loop-j.invariant.0.size
 pub returns : goal.returns
 returns c =
     let full : c.loop-j.j ≡ c.args.count = omega (arith, c.loop-j-test.false, c.loop-j.invariant.2) in
-    (rw (← full) c.loop-j.invariant.0, rw (← full) c.loop-j.invariant.1, sought_all (rw full c.loop-j c.loop-j.invariant.3))
+    (rw (← full) c.loop-j.invariant.0, rw (← full) c.loop-j.invariant.1, sought_all (rw full at c.loop-j.invariant.3))

@@ -59,8 +59,8 @@ overflow_add-i c =
 
 pub loop-i-preserved : goal.loop-i-preserved
 loop-i-preserved c =
-    let point = rw c.chosen_place-place.ensures c.loop-i c.point_at-p.ensures in
-    let filled = rw c.message_symbol-v.ensures c.loop-i c.turn-n.ensures in (
+    let point = rw c.chosen_place-place.ensures at c.point_at-p.ensures in
+    let filled = rw c.message_symbol-v.ensures at c.turn-n.ensures in (
       c.turn-n.auto.l ∙ c.loop-i.invariant.0,
       c.turn-n.auto.u ∙ c.loop-i.invariant.1,
       c.turn-n.auto.f ∙ c.loop-i.invariant.2,

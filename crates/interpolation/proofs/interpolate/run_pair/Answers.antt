@@ -45,7 +45,7 @@ overflow_add-i c =
 
 pub loop-i-preserved : goal.loop-i-preserved
 loop-i-preserved c =
-    let point = rw c.chosen_place-place.ensures c.loop-i c.point_at-p.ensures in
+    let point = rw c.chosen_place-place.ensures at c.point_at-p.ensures in
     (
       c.pair_turn-n.auto.l ∙ c.loop-i.invariant.0,
       c.pair_turn-n.auto.u ∙ c.loop-i.invariant.1,

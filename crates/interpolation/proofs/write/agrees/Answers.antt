@@ -26,7 +26,7 @@ message_symbol-requires c =
 pub returns-then-value-message_symbol : goal.returns-then-value-message_symbol
 returns-then-value-message_symbol c =
     let F = galois c.args.m in
-    let point = rw c.chosen_place-place.ensures c.loop-i c.point_at-p.ensures in
+    let point = rw c.chosen_place-place.ensures at c.point_at-p.ensures in
     let value = value_at_lem c.args.xs.now c.args.ys.now c.args.places.now c.loop-i.i c.loop-i-test.true F c.args.f.now point c.value.ensures in
     same_fails (map (evaluate F c.args.f.now) (points_of c.args.xs.now c.args.ys.now c.args.places.now)) c.args.symbols.now c.loop-i.i c.loop-i.invariant (rw (values_length c.args.xs.now c.args.ys.now c.args.places.now F c.args.f.now) c.loop-i-test.true) (omega (arith, c.loop-i-test.true, c.requires.within.1))
     (λ e. c.if-value-message_symbol.true (sym value ∙ e ∙ sym c.message_symbol.ensures))
@@ -34,7 +34,7 @@ returns-then-value-message_symbol c =
 pub loop-i-preserved : goal.loop-i-preserved
 loop-i-preserved c =
     let F = galois c.args.m in
-    let point = rw c.chosen_place-place.ensures c.loop-i c.point_at-p.ensures in
+    let point = rw c.chosen_place-place.ensures at c.point_at-p.ensures in
     let value = value_at_lem c.args.xs.now c.args.ys.now c.args.places.now c.loop-i.i c.loop-i-test.true F c.args.f.now point c.value.ensures in
     same_passes (map (evaluate F c.args.f.now) (points_of c.args.xs.now c.args.ys.now c.args.places.now)) c.args.symbols.now c.loop-i.i c.loop-i.invariant (rw (values_length c.args.xs.now c.args.ys.now c.args.places.now F c.args.f.now) c.loop-i-test.true) (omega (arith, c.loop-i-test.true, c.requires.within.1))
     (value ∙ c.if-value-message_symbol.false ∙ c.message_symbol.ensures)

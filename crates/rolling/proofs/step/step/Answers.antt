@@ -102,7 +102,7 @@ further_2 c =
 
 pub returns : goal.returns
 returns c =
-    let mean = to_z-of_z w16 c.rolling_mean.result (record { sfits = c.rolling_mean.type-inv }) ∙ c.rolling_mean.ensures in
+    let mean = to_z-of_z w16 c.rolling_mean.result (record { sfits = c.rolling_mean.type_inv }) ∙ c.rolling_mean.ensures in
     pass _ (valid-ok_5 c)
     (pass _ (possible-ok_3 c)
     (pass _ (next-ok c)

@@ -29,11 +29,11 @@ overflow_add-i-in-loop-i c =
 
 pub loop-i-preserved : goal.loop-i-preserved
 loop-i-preserved c =
-    let r = rw c.message_symbol-v.ensures c.loop-i c.word_turn-n.ensures in
+    let r = rw c.message_symbol-v.ensures at c.word_turn-n.ensures in
     let pair = r.pair.next c.args.u.now c.loop-i.i _ (get_or c.args.symbols.now c.loop-i.i 0) (omega arith) (omega arith) (c.requires.runs_with.0.small c.loop-i.i c.loop-i-test.true) c.loop-i.invariant.4 in
     let word = r.next c.args.u.now c.loop-i.i _ (omega arith) (omega arith) c.loop-i.invariant.4 c.loop-i.invariant.5 in
     let more = point_more c.args.m c.args.xs.now c.args.u.now c.args.symbols.now c.loop-i.i (omega (arith, c.requires.runs_with.0.enough)) in
-    (r.pair.first_size, r.pair.second_size, r.word_size, omega arith, rw more c.loop-i pair, rw more c.loop-i word)
+    (r.pair.first_size, r.pair.second_size, r.word_size, omega arith, rw more at pair, rw more at word)
 
 pub shape_of-l : goal.shape_of-l
 shape_of-l c = c.loop-i.invariant.0 ∙ sym (begun_size c.requires.coordinates.0 c.requires.coordinates.1)
