@@ -1,5 +1,5 @@
 -- A list that moves one place on, from the back: what stands before i stands there still, and the rest came from one place before.
-use Prim.Native.Nat.{ℕ, suc, ◌+◌, ◌-◌, ◌≤◌, ◌<◌}
+use Prim.Native.Nat.{ℕ, zero, suc, ◌+◌, ◌-◌, ◌≤◌, ◌<◌}
 use mathlib.Core.Path.{◌≡◌, sym, ◌∙◌}
 use mathlib.Core.List.{List, [], ◌∷◌, ◌++◌, append-nil}
 use native.Mathlib.Omega.{arith}
@@ -38,6 +38,7 @@ module _ (n : ℕ) (l : List ℕ) (long : length l ≡ n + 1) where
       (rw (add-one, drop-cons (take n l) i 0 (omega (arith, long_kept))))
 
   pub shift_turn : (i : ℕ) → 1 ≤ i → i ≤ n → set (shifted i) i (get_or (shifted i) (i - 1) 0) ≡ shifted (i - 1)
+  shift_turn zero h k = elim h [ ]
   shift_turn (suc i) h k = let same : suc i - 1 ≡ i = omega arith in rw same (turn i k)
 
   pub shift_end : (v : ℕ) → set (shifted 0) 0 v ≡ v ∷ take n l

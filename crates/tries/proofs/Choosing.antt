@@ -66,10 +66,10 @@ module _ {m : ℕ} (h : IsField m) {ts ds late rs : List ℕ} (R : Rows m ts ds 
       let e : length late ≡ length ds = R.lates ∙ sym R.differences in
       all_of 0 xs (λ i k.
       let l : i < length ds = omega (arith, k, xs_length, R.differences) in
-      rw (get_or_add (galois m) d late ds i e l) (K.add_lt _ _ (R.difference_Below i l) (K.mul_lt d (get_or late i 0))))
+      rw (get_or_add (galois m) d late ds i e l) (K.add_lt _ _ (R.difference_below i l) (K.mul_lt d (get_or late i 0))))
 
   rs_below : All (λ r. r < size m) rs
-  rs_below = all_of 0 rs R.row-Below
+  rs_below = all_of 0 rs R.row_below
 
   module _ {half cost : ℕ} {slots : List ℕ} (G : Gathered m half ts rs xs cost slots) where
     slot_cost : (j : ℕ) → j < 128 → 0 < multiple_of half j → multiple_of half j < size m

@@ -10,6 +10,7 @@ use Rattle.elliptic.specs.Curve.{point}
 use Rattle.curve.specs.Listing.{Rooms, Appends}
 use Rattle.curve.proofs.Equation.{solution, column_as}
 use Rattle.curve.proofs.Listing.{appends_none, turn_yes, turn_no}
+use Rattle.curve.proofs.append_column.Goals.{then-solves, else-solves}
 use Rattle.curve.proofs.append_column.Goals as goal
 
 pub loop-y-init : goal.loop-y-init
@@ -20,18 +21,17 @@ overflow_cast-b c = omega (arith, size_le c.requires.0.field)
 
 pub loop-y-preserved : goal.loop-y-preserved
 loop-y-preserved c =
-    ⊎_elim
-    (λ w. (
-      omega arith,
-      rw (w.8, w.9) (w.3.kept.0 ∙ c.loop-y.invariant.1.0, w.3.kept.1.0 ∙ c.loop-y.invariant.1.1),
-      rw (w.8, w.9, w.10) (turn_yes (solution _ _ _) (point c.args.x) c.loop-y.y c.loop-y.invariant.2 c.solves.ensures w.0.taken w.3.ensures),
-    ))
-    (λ w. (
-      omega arith,
-      rw (w.1, w.2) c.loop-y.invariant.1,
-      rw (w.1, w.2, w.3) (turn_no (solution _ _ _) (point c.args.x) c.loop-y.y c.loop-y.invariant.2 c.solves.ensures w.0.left),
-    ))
-    c.if-solves.branch
+    elim c.if-solves.branch [
+      then-solves w ↦ (
+        omega arith,
+        rw (w.xs-is, w.ys-is) (w.append-count.auto.xs ∙ c.loop-y.invariant.1.0, w.append-count.auto.ys ∙ c.loop-y.invariant.1.1),
+        rw (w.xs-is, w.ys-is, w.count-is) (turn_yes (solution _ _ _) (point c.args.x) c.loop-y.y c.loop-y.invariant.2 c.solves.ensures w.if-solves.true w.append-count.ensures),
+      )
+      | else-solves w ↦ (
+        omega arith,
+        rw (w.xs-is, w.ys-is) c.loop-y.invariant.1,
+        rw (w.xs-is, w.ys-is, w.count-is) (turn_no (solution _ _ _) (point c.args.x) c.loop-y.y c.loop-y.invariant.2 c.solves.ensures w.if-solves.false),
+      ) ]
 
 pub returns : goal.returns
 returns c =

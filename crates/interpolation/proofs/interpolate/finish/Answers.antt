@@ -8,17 +8,11 @@ use Rattle.interpolation.proofs.interpolate.finish.Goals as goal
 pub slice_bounds-complete-end : goal.slice_bounds-complete-end
 slice_bounds-complete-end c = sym (length-take-le _ _ (omega arith))
 
-pub complete-requires : goal.complete-requires
-complete-requires c = record { tables = c.requires.tables; n_in_bounds = omega (arith, c.requires.room, (sym (length-take-le _ _ (omega arith)))) }
-
 pub returns-then-turned : goal.returns-then-turned
 returns-then-turned c = rw c.if-turned.true c.complete.ensures
 
 pub slice_bounds-complete-end-2 : goal.slice_bounds-complete-end-2
 slice_bounds-complete-end-2 c = sym (length-take-le _ _ (omega arith))
-
-pub complete-requires-2 : goal.complete-requires-2
-complete-requires-2 c = record { tables = c.requires.tables; n_in_bounds = omega (arith, c.requires.room, (sym (length-take-le _ _ (omega arith)))) }
 
 pub returns : goal.returns
 returns c = rw c.if-turned.false c.complete-2.ensures

@@ -13,7 +13,7 @@ slice_bounds-store_codes-end-2 c = sym (length-take-le 48 c.args.out.now (omega 
 
 pub store_codes-requires : goal.store_codes-requires
 store_codes-requires c =
-    (sym (length-map {A = ℕ} {B = ℕ} c.args.state.codes (λ v. v)) ∙ c.well-formed.0.1.1.0.1.0.1, length-take-le 48 c.args.out.now (omega arith))
+    (sym (length-map {A = ℕ} {B = ℕ} c.args.state.codes (λ v. v)) ∙ c.well_formed.0.1.1.0.1.0.1, length-take-le 48 c.args.out.now (omega arith))
 
 pub returns : goal.returns
 returns c =

@@ -9,6 +9,10 @@ use Rattle.rolling.specs.Bytes.{in_bytes}
 use Rattle.rolling.proofs.InBytes.{stored_size, number_stored, held_all}
 use Rattle.rolling.proofs.bytes.store_codes.Goals as goal
 
+pub loop-i-init : goal.loop-i-init
+unfolding in_bytes
+loop-i-init c = search rules
+
 pub loop-i-preserved : goal.loop-i-preserved
 loop-i-preserved c =
     let from = 2 * c.loop-i.i in

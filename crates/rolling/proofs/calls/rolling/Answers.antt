@@ -1,6 +1,5 @@
 -- The lengths are tested; then the step answers for the state in the bytes, and where it is done its state and its mean are stored.
 use mathlib.Core.Path.{◌≡◌}
-use mathlib.Core.Logic.{⊎_elim}
 use native.Mathlib.Omega.{arith}
 use borrow.Author.Rules.{rules}
 use borrow.Author.Tests.{eq-eqb, ne_eqb}
@@ -51,4 +50,4 @@ stepped_2 c =
 pub returns : goal.returns
 returns c =
     call_stops _ c.args.hour c.args.mean _ (lengths_2 c) (stepped_2 c)
-    (λ d. ⊎_elim (λ e. omega (arith, e)) (λ e. omega (arith, e)) (rw d at c.in_default.in_default-own.keys2))
+    c.in_default.not-Done

@@ -15,6 +15,13 @@ overflow_add-count c =
     let new = one_added _ c.loop-i.invariant c.loop-i-test.true c.presence-one.ensures refl in
     omega (arith, (added_small _ new c.requires.0 c.requires.1).0)
 
+module _ (c : goal.After-wide) where
+  turned : Added c.args.codes.now (c.loop-i.i + 1) (c.loop-i.count + c.presence-one.result) (c.loop-i.sum + c.presence-one.result * c.wide.result)
+  turned = one_added _ c.loop-i.invariant c.loop-i-test.true c.presence-one.ensures c.wide.ensures
+
+  sum_small : c.loop-i.sum + c.presence-one.result * c.wide.result ≤ 528000
+  sum_small = (added_small _ turned c.requires.0 c.requires.1).1
+
 pub overflow_mul-sum : goal.overflow_mul-sum
 overflow_mul-sum c = omega (arith, sum_small c)
 

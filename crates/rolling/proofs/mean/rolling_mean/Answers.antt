@@ -11,7 +11,7 @@ use Rattle.rolling.proofs.Totals.{figure_by_totals, totals_small, sum_small}
 use Rattle.rolling.proofs.mean.rolling_mean.Goals as goal
 
 pub add_up-t-requires : goal.add_up-t-requires
-add_up-t-requires c = (omega (arith, c.add_up-arg-1.given.0), c.requires)
+add_up-t-requires c = (omega (arith, c.told-codes), c.requires)
 
 pub returns-then-t-lt-ENOUGH : goal.returns-then-t-lt-ENOUGH
 returns-then-t-lt-ENOUGH c =
@@ -19,13 +19,13 @@ returns-then-t-lt-ENOUGH c =
     rw (figure_by_totals _ c.requires c.add_up-t.ensures, lt-ltb _ _ few)
 
 small : (c : goal.Else-t-lt-ENOUGH) → (c.add_up-t.result.count ≤ 24) × (c.add_up-t.result.sum ≤ 22000 * c.add_up-t.result.count)
-small c = totals_small c.args.codes.now c.requires c.add_up-t.ensures (omega (arith, c.add_up-arg-1.given.0))
+small c = totals_small c.args.codes.now c.requires c.add_up-t.ensures (omega (arith, c.told-codes))
 
 pub sum_of_means-requires : goal.sum_of_means-requires
 sum_of_means-requires c = small c
 
 small_2 : (c : goal.After-sum_of_means) → (c.add_up-t.result.count ≤ 24) × (c.add_up-t.result.sum ≤ 22000 * c.add_up-t.result.count)
-small_2 c = totals_small c.args.codes.now c.requires c.add_up-t.ensures (omega (arith, c.add_up-arg-1.given.0))
+small_2 c = totals_small c.args.codes.now c.requires c.add_up-t.ensures (omega (arith, c.told-codes))
 
 -- the sum of the means, as `nearest` gets it
 its-sum : (c : goal.After-sum_of_means) →
