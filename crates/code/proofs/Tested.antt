@@ -3,20 +3,15 @@
 use Prim.{Unit}
 use Prim.Native.Nat.{ℕ, ◌≤◌}
 use mathlib.Core.Bool.{Bool, true, false, not}
-use mathlib.Core.List.{[], ◌∷◌}
 use mathlib.Core.Path.{◌≡◌, refl, sym, ◌∙◌}
-use mathlib.Core.Logic.{⊎_elim}
 use native.Mathlib.Omega.{arith}
-use types.Run.{OneOf}
-use denote.Enum.Declared.{tag_of}
-use borrow.Author.Tests.{leb-true, not-false}
+use borrow.Author.Tests.{leb-true}
 use lib.Dec.{eqb, leb}
 use lib.ListN.{length}
 use Rattle.basics.specs.declared.Refusal.{Refusal}
 use Rattle.basics.specs.declared.Answer.{Answer}
 use Rattle.basics.specs.declared.Answer.TheVariants.{Done, Refused}
 use Rattle.basics.specs.Outcome.{Outcome, check, answer, left, counts, Meets}
-use Rattle.basics.specs.contracts.Answer.{the_type}
 use Rattle.basics.proofs.Outcomes.{meets_as, counts_check, counts_if}
 use Rattle.basics.proofs.Lists.{both}
 use Rattle.field.specs.Galois.{is_field, IsField}
@@ -35,8 +30,8 @@ answered true e u h = h
 answered false e u h = stopped e refl
 
 -- the test of the field number answered b
-pub field_number : {m : ℕ} {b : Bool} → b ≡ is_field m → not b ≡ false → IsField m
-field_number {b = b} e h = is_field_lem _ (sym e ∙ not-false b h)
+pub field_number : {m : ℕ} {b : Bool} → b ≡ is_field m → b ≡ true → IsField m
+field_number e h = is_field_lem _ (sym e ∙ h)
 
 module _ (code : Code) where
   verdict : Answered (code_answer code)
@@ -57,10 +52,6 @@ module _ (code : Code) where
         by : Answered (code_answer code) → Meets (check_code code o) r old old
         by (done h) = absurd (d (e ∙ h))
         by (stopped x h) = meets_as (check_refused code h o) (record { answers = e ∙ h; leaves = refl })
-
-    -- the same by the tag of the answer: Counted or Refused
-    pub stop_by_tag : {r : Answer} {old : M} → r ≡ code_answer code → OneOf (1 ∷ 2 ∷ []) (tag_of the_type r) → Meets (check_code code o) r old old
-    stop_by_tag e t = stop e (λ d. ⊎_elim (λ k. omega (arith, k)) (λ k. omega (arith, k)) (rw d at t))
 
     -- what an operation counts, where that is bounded for 288 points at most
     pub counts_code : (b : ℕ) → (n code ≤ 288 → counts (answer o) ≤ b) → counts (answer (check_code code o)) ≤ b

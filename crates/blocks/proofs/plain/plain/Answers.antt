@@ -4,7 +4,7 @@ use borrow.Author.Tests.{not-true}
 use Rattle.basics.proofs.Outcomes.{refuse}
 use Rattle.field.specs.Galois.{IsField}
 use Rattle.field.specs.Tables.{Tables}
-use Rattle.code.proofs.Tested.{field_number, go_on, stop_by_tag}
+use Rattle.code.proofs.Tested.{field_number, go_on, stop}
 use borrow.Author.Rules.{rules}
 use Rattle.blocks.proofs.plain.plain.Goals as goal
 
@@ -47,4 +47,4 @@ returns-in-Done c =
     go_on _ _ (sym c.test_code_with-tested.ensures ∙ c.in-Done.is) c.plain_tested.ensures
 
 pub returns : goal.returns
-returns c = stop_by_tag _ _ c.test_code_with-tested.ensures c.in_default.in_default-own.keys2
+returns c = stop _ _ c.test_code_with-tested.ensures c.in_default.not-Done

@@ -4,7 +4,7 @@ use borrow.Author.Tests.{not-true}
 use Rattle.basics.proofs.Outcomes.{refuse}
 use Rattle.field.specs.Galois.{IsField}
 use Rattle.field.specs.Tables.{Tables}
-use Rattle.code.proofs.Tested.{field_number, points_most, go_on, stop_by_tag}
+use Rattle.code.proofs.Tested.{field_number, points_most, go_on, stop}
 use borrow.Author.Rules.{rules}
 use Rattle.code.proofs.heard.heard.Goals as goal
 
@@ -39,4 +39,4 @@ pub returns-in-Done : goal.returns-in-Done
 returns-in-Done c = go_on _ _ (sym c.test_code_with-tested.ensures ∙ c.in-Done.is) c.heard_tested.ensures
 
 pub returns : goal.returns
-returns c = stop_by_tag _ _ c.test_code_with-tested.ensures c.in_default.in_default-own.keys2
+returns c = stop _ _ c.test_code_with-tested.ensures c.in_default.not-Done

@@ -65,7 +65,7 @@ past-count c o h = passed_by _ Singular _ (smooth-ok_2 c) (passed_by _ PointCoun
 
 pub returns-then-not-found : goal.returns-then-not-found
 unfolding points_answer all_on_curve
-returns-then-not-found c = past-count c _ (refused_by _ _ (sym c.judge-found.ensures.points ∙ c.if-not-found.true))
+returns-then-not-found c = past-count c _ (refused_by _ _ (sym c.judge-found.ensures.points ∙ (not-true _ c.if-not-found.true)))
 
 abbrev code_4 : goal.Then-not-found-2 → Code
 code_4 c = code_of c.args.p c.args.xs.now c.args.ys.now
@@ -86,7 +86,7 @@ past-count_2 c o h = passed_by _ Singular _ (smooth-ok_3 c) (passed_by _ PointCo
 
 on-ok : (c : goal.Then-not-found-2) → all_on_curve (code_4 c) ≡ true
 unfolding all_on_curve
-on-ok c = sym c.judge-found.ensures.points ∙ c.if-not-found.false
+on-ok c = sym c.judge-found.ensures.points ∙ (not-false _ c.if-not-found.false)
 
 lengths_2 : (c : goal.Then-not-found-2) → length c.args.xs.now ≡ length c.args.ys.now
 unfolding right_count
@@ -101,7 +101,7 @@ apart-is c =
 pub returns-then-not-found-2 : goal.returns-then-not-found-2
 unfolding points_answer
 returns-then-not-found-2 c =
-    past-count_2 c _ (passed_by _ OffCurve _ (on-ok c) (refused_by _ _ (sym (apart-is c) ∙ c.if-not-found-2.true)))
+    past-count_2 c _ (passed_by _ OffCurve _ (on-ok c) (refused_by _ _ (sym (apart-is c) ∙ (not-true _ c.if-not-found-2.true))))
 
 abbrev code_5 : goal.Then-not-right_dimension → Code
 code_5 c = code_of c.args.p c.args.xs.now c.args.ys.now
@@ -122,7 +122,7 @@ past-count_3 c o h = passed_by _ Singular _ (smooth-ok_4 c) (passed_by _ PointCo
 
 on-ok_2 : (c : goal.Then-not-right_dimension) → all_on_curve (code_5 c) ≡ true
 unfolding all_on_curve
-on-ok_2 c = sym c.judge-found.ensures.points ∙ c.if-not-found.false
+on-ok_2 c = sym c.judge-found.ensures.points ∙ (not-false _ c.if-not-found.false)
 
 lengths_3 : (c : goal.Then-not-right_dimension) → length c.args.xs.now ≡ length c.args.ys.now
 unfolding right_count
@@ -135,7 +135,7 @@ apart-is_2 c =
     c.judge-found.ensures.slots ∙ slots_differ c.args.xs.now c.args.ys.now (lengths_3 c) c.requires.0.field c.args.p.curve c.requires.1 (on-ok_2 c)
 
 different-ok : (c : goal.Then-not-right_dimension) → all_different (code_5 c) ≡ true
-different-ok c = sym (apart-is_2 c) ∙ c.if-not-found-2.false
+different-ok c = sym (apart-is_2 c) ∙ (not-false _ c.if-not-found-2.false)
 
 past_points : (c : goal.Then-not-right_dimension) (o : Outcome (Unit {0})) {r : Answer} → r ≡ answer o
  → let d = code_5 c in
@@ -165,7 +165,7 @@ past-count_4 c o h = passed_by _ Singular _ (smooth-ok_5 c) (passed_by _ PointCo
 
 on-ok_3 : (c : goal.Else-not-right_dimension) → all_on_curve (code_6 c) ≡ true
 unfolding all_on_curve
-on-ok_3 c = sym c.judge-found.ensures.points ∙ c.if-not-found.false
+on-ok_3 c = sym c.judge-found.ensures.points ∙ (not-false _ c.if-not-found.false)
 
 lengths_4 : (c : goal.Else-not-right_dimension) → length c.args.xs.now ≡ length c.args.ys.now
 unfolding right_count
@@ -178,7 +178,7 @@ apart-is_3 c =
     c.judge-found.ensures.slots ∙ slots_differ c.args.xs.now c.args.ys.now (lengths_4 c) c.requires.0.field c.args.p.curve c.requires.1 (on-ok_3 c)
 
 different-ok_2 : (c : goal.Else-not-right_dimension) → all_different (code_6 c) ≡ true
-different-ok_2 c = sym (apart-is_3 c) ∙ c.if-not-found-2.false
+different-ok_2 c = sym (apart-is_3 c) ∙ (not-false _ c.if-not-found-2.false)
 
 past_points_2 : (c : goal.Else-not-right_dimension) (o : Outcome (Unit {0})) {r : Answer} → r ≡ answer o
  → let d = code_6 c in

@@ -29,4 +29,4 @@ pub returns-in-Done : goal.returns-in-Done
 returns-in-Done c = places_go _ _ (passed_2 c) _ c.pick_run.ensures
 
 pub returns : goal.returns
-returns c = places_stop _ _ _ c.test_places-tested.ensures (λ d. ⊎_elim (λ e. omega (arith, e)) (λ e. omega (arith, e)) (rw d at c.in_default.in_default-own.keys2))
+returns c = places_stop _ _ _ c.test_places-tested.ensures c.in_default.not-Done

@@ -6,7 +6,7 @@ use Rattle.basics.proofs.Outcomes.{refuse}
 use Rattle.field.specs.Galois.{IsField}
 use Rattle.field.specs.Tables.{Tables}
 use Rattle.codewords.specs.Code.{code_of, code_answer}
-use Rattle.code.proofs.Tested.{field_number, go_on, stop_by_tag}
+use Rattle.code.proofs.Tested.{field_number, go_on, stop}
 use borrow.Author.Rules.{rules}
 use Rattle.coder.proofs.recover.recover.Goals as goal
 
@@ -53,4 +53,4 @@ pub returns-in-Done : goal.returns-in-Done
 returns-in-Done c = go_on _ _ (passed_2 c) c.recover_tested.ensures
 
 pub returns : goal.returns
-returns c = stop_by_tag _ _ c.test_code_with-tested.ensures c.in_default.in_default-own.keys2
+returns c = stop _ _ c.test_code_with-tested.ensures c.in_default.not-Done

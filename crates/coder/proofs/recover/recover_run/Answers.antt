@@ -114,4 +114,4 @@ outcome_3 : (c : goal.In_default) → let code = code_of c.args.p c.args.xs.now 
 outcome_3 c = every_posed _ c.requires.ys_value _ c.requires.places_value.0 _ _
 
 pub returns : goal.returns
-returns c = meets_as (outcome_3 c) (posed_stop _ _ _ _ c.prepare-prepared.ensures.answers (λ d. ⊎_elim (λ e. omega (arith, e)) (λ e. omega (arith, e)) (rw d at c.in_default.in_default-own.keys2)))
+returns c = meets_as (outcome_3 c) (posed_stop _ _ _ _ c.prepare-prepared.ensures.answers c.in_default.not-Done)

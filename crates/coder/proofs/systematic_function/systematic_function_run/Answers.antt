@@ -37,4 +37,4 @@ returns-in-Done c =
     posed_go _ _ _ (passed c) _ (accept_pair (c.write_function.ensures ∙ the_function _ _ _ c.requires.ys_value (enough _ _ _ (passed c) c.requires.ys_value (c.requires.places_len.1 ∙ sym c.requires.places_len.0)) c.requires.places_len.0 c.requires.places_len.2 (holds_2 c)) c.clear_room.ensures)
 
 pub returns : goal.returns
-returns c = posed_stop _ _ _ _ c.prepare-prepared.ensures.answers (λ d. ⊎_elim (λ e. omega (arith, e)) (λ e. omega (arith, e)) (rw d at c.in_default.in_default-own.keys2))
+returns c = posed_stop _ _ _ _ c.prepare-prepared.ensures.answers c.in_default.not-Done

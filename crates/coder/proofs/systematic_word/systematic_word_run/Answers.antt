@@ -38,4 +38,4 @@ returns-in-Done c =
     c.clear_room.ensures)
 
 pub returns : goal.returns
-returns c = posed_stop _ _ _ _ c.prepare_word-prepared.ensures.answers (λ d. ⊎_elim (λ e. omega (arith, e)) (λ e. omega (arith, e)) (rw d at c.in_default.in_default-own.keys2))
+returns c = posed_stop _ _ _ _ c.prepare_word-prepared.ensures.answers c.in_default.not-Done

@@ -29,10 +29,10 @@ byte : (c : goal.After-shared_slice_known-3-1) → Fits w8 (get_or c.args.trusts
 byte c = c.type_inv.trusts c.index_of.result
 
 pub overflow_cast-result : goal.overflow_cast-result
-overflow_cast-result c = record { fits = omega (arith, (byte c).ranges) }
+overflow_cast-result c = record { fits = omega (arith, (byte c).fits) }
 
 pub returns : goal.returns
 returns c =
     let index : c.index_of.result ≡ get_or c.args.places.now c.args.index.0 0 - 1
     = c.index_of.ensures ∙ ap (λ p. p - 1) c.chosen_place-place.ensures in
-    (ap (λ i. get_or c.args.trusts.now i 0) index ∙ sym (entry_at c.args.trusts.now c.args.places.now c.args.index.0 c.requires.1), omega (arith, (byte c).ranges))
+    (ap (λ i. get_or c.args.trusts.now i 0) index ∙ sym (entry_at c.args.trusts.now c.args.places.now c.args.index.0 c.requires.1), omega (arith, (byte c).fits))

@@ -1,9 +1,9 @@
 use Prim.Native.Nat.{◌-◌, ◌≤◌}
 use mathlib.Core.Path.{◌≡◌, refl}
-use mathlib.Core.Logic.{⊎_elim}
 use native.Mathlib.Omega.{arith}
 use lib.ListN.{length, length-set}
 use Rattle.generator.proofs.Symbols.{Completing, completing_none, completing_over, completing_away, completing_all}
+use Rattle.generator.proofs.entries.complete_row.Goals.{then-xs-s, else-xs-s}
 use Rattle.generator.proofs.entries.complete_row.Goals as goal
 
 pub bounds-xs-j : goal.bounds-xs-j
@@ -38,11 +38,12 @@ loop-s-preserved c =
     (
       omega (arith, c.loop-s.invariant.0),
       omega (arith, c.loop-s-test.true),
-      ⊎_elim (λ w. rw w.3 (simp length-set c.loop-s.invariant.2)) (λ w. rw w.1 c.loop-s.invariant.2) c.if-xs-s.branch,
-      ⊎_elim
-          (λ w. rw w.3 (completing_over c.args.index.0 c.args.count c.args.xs.now c.args.a.now c.args.b.now c.args.sums.now c.args.row.now c.loop-s.invariant.0 c.loop-s-test.true c.loop-s.invariant.3 w.0.taken w.1.ensures))
-          (λ w. rw w.1 (completing_away c.args.index.0 c.args.count c.args.xs.now c.args.a.now c.args.b.now c.args.sums.now c.args.row.now c.loop-s.invariant.0 c.loop-s-test.true c.loop-s.invariant.3 w.0.left))
-          c.if-xs-s.branch,
+      elim c.if-xs-s.branch [
+        then-xs-s w ↦ rw w.row-is (simp length-set c.loop-s.invariant.2)
+        | else-xs-s w ↦ rw w.row-is c.loop-s.invariant.2 ],
+      elim c.if-xs-s.branch [
+        then-xs-s w ↦ rw w.row-is (completing_over c.args.index.0 c.args.count c.args.xs.now c.args.a.now c.args.b.now c.args.sums.now c.args.row.now c.loop-s.invariant.0 c.loop-s-test.true c.loop-s.invariant.3 w.if-xs-s.true w.index_in-i.ensures)
+        | else-xs-s w ↦ rw w.row-is (completing_away c.args.index.0 c.args.count c.args.xs.now c.args.a.now c.args.b.now c.args.sums.now c.args.row.now c.loop-s.invariant.0 c.loop-s-test.true c.loop-s.invariant.3 w.if-xs-s.false) ],
     )
 
 pub index_of-requires : goal.index_of-requires

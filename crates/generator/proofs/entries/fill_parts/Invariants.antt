@@ -11,7 +11,7 @@ use Rattle.generator.proofs.Symbols.{Filling, filling_none, filling_turn, fillin
 use Rattle.generator.proofs.entries.fill_parts.Given as goal
 
 abbrev pub invariant-loop-s : goal.invariant-loop-s
-invariant-loop-s l = (l.count ≤ l.s) × (l.s ≤ length l.xs) × Sweeping (λ l.s. get_or l.initial.sums l.s 0 ⊕ part_at l.m l.xs l.l l.u l.a l.b l.j l.s) l.count l.s l.initial.sums l.sums
+invariant-loop-s l = (l.count ≤ l.s) × (l.s ≤ length l.xs) × Sweeping (λ s. get_or l.initial.sums s 0 ⊕ part_at l.m l.xs l.l l.u l.a l.b l.j s) l.count l.s l.initial.sums l.sums
     × (length l.row ≡ length l.initial.row) × Filling l.m l.j l.count l.xs l.l l.u l.a l.b l.s l.row
 
 abbrev pub decreases-loop-s : goal.decreases-loop-s

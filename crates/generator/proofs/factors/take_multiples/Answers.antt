@@ -1,6 +1,5 @@
 use mathlib.Core.Path.{◌≡◌, refl}
 use Prim.Native.Nat.{◌-◌, ◌≤◌}
-use mathlib.Core.Logic.{⊎_elim}
 use native.Mathlib.Omega.{arith}
 use Rattle.engine.proofs.Laws.{logged, by_logged}
 use Rattle.values.specs.Values.{Sweeping}
@@ -8,6 +7,7 @@ use Rattle.values.proofs.Sweeps.{sweeping_none, sweeping_turn}
 use Rattle.generator.specs.Rows.{total, multiple_at}
 use Rattle.generator.proofs.Turns.{multiple_by, one_more, Sought, sought_none, sought_here, sought_on, sought_all}
 use borrow.Author.Rules.{rules}
+use Rattle.generator.proofs.factors.take_multiples.Goals.{then-x-alpha, else-x-alpha}
 use Rattle.generator.proofs.factors.take_multiples.Goals as goal
 
 pub loop-j-init : goal.loop-j-init
@@ -45,7 +45,9 @@ loop-j-preserved c =
       sweeping_turn _ _ _ c.loop-j.j (omega (arith, c.loop-j-test.true, c.requires.row_lists.0.firsts)) c.loop-j.invariant.0 e,
       one_more _ c.loop-j.j c.loop-j.invariant.1 e,
       omega (arith, c.loop-j-test.true),
-      ⊎_elim (λ w. rw w.1 (sought_here c.loop-j-test.true c.loop-j.invariant.3 w.0.taken)) (λ w. rw w.1 (sought_on c.loop-j.invariant.3 w.0.left)) c.if-x-alpha.branch,
+      elim c.if-x-alpha.branch [
+        then-x-alpha w ↦ rw w.over-is (sought_here c.loop-j-test.true c.loop-j.invariant.3 w.if-x-alpha.true)
+        | else-x-alpha w ↦ rw w.over-is (sought_on c.loop-j.invariant.3 w.if-x-alpha.false) ],
     )
 
 pub shape_of-a : goal.shape_of-a

@@ -8,14 +8,3 @@ run-hs-requires c = record { tables = c.requires.tables; laid = c.requires.laid.
 
 pub write_locator-requires : goal.write_locator-requires
 write_locator-requires c = record { tables = c.requires.tables; laid = c.requires.laid.0; after = c.run-hs.ensures }
-
-pub shape_of-a : goal.shape_of-a
-shape_of-a c =
-    omega (arith, c.write_locator.kept, c.run-hs.kept, c.begin-first.auto)
-
-pub shape_of-b : goal.shape_of-b
-shape_of-b c =
-    omega (arith, c.write_locator.kept, c.run-hs.kept, c.begin-first.auto)
-
-pub shape_of-c : goal.shape_of-c
-shape_of-c c = omega (arith, c.run-hs.kept, c.begin-first.auto)

@@ -75,10 +75,6 @@ within-c_2 c = omega (arith, c.loop-i-test.true, c.requires.p_len.3, c.loop-i.in
 pub bounds-c-i-in-loop-i : goal.bounds-c-i-in-loop-i
 bounds-c-i-in-loop-i c = within-c_2 c
 
--- a slice's length is a usize
-pub overflow_add-i : goal.overflow_add-i
-overflow_add-i c = record { fits = omega (arith, c.loop-i-test.true, c.good.1.1.1.1.1.1.1.0.0) }
-
 pub loop-i-smaller : goal.loop-i-smaller
 loop-i-smaller c = omega (arith, c.loop-i-test.true)
 

@@ -1,9 +1,8 @@
 -- Each callee fills its part of the buffer.
 use Prim.Native.Nat.{ℕ}
-use mathlib.Core.Path.{sym, ◌∙◌}
+use mathlib.Core.Path.{sym}
 use native.Mathlib.Omega.{arith}
 use borrow.Author.Rules.{rules}
-use lib.ListN.{length-map}
 use lib.Seq.{length-take-le}
 use Rattle.rolling.proofs.InBytes.{state_stored}
 use Rattle.rolling.proofs.bytes.store.Goals as goal
@@ -13,7 +12,7 @@ slice_bounds-store_codes-end-2 c = sym (length-take-le 48 c.args.out.now (omega 
 
 pub store_codes-requires : goal.store_codes-requires
 store_codes-requires c =
-    (sym (length-map {A = ℕ} {B = ℕ} c.args.state.codes (λ v. v)) ∙ c.well_formed.0.1.1.0.1.0.1, length-take-le 48 c.args.out.now (omega arith))
+    (c.well_formed.0.1.1.0.1.0.1, length-take-le 48 c.args.out.now (omega arith))
 
 pub returns : goal.returns
 returns c =

@@ -15,4 +15,4 @@ pub returns-in-Done : goal.returns-in-Done
 returns-in-Done c = runs_as (check_done _ (sym c.test_code-tested.ensures ∙ c.in-Done.is) _) c.run_tested.ensures
 
 pub returns : goal.returns
-returns c = code_stops _ _ c.test_code-tested.ensures (λ d. ⊎_elim (λ e. omega (arith, e)) (λ e. omega (arith, e)) (rw d at c.in_default.in_default-own.keys2))
+returns c = code_stops _ _ c.test_code-tested.ensures c.in_default.not-Done

@@ -97,4 +97,4 @@ symbols_many_3 c = eq-eqb _ _ c.if-message-p.false
 
 pub returns : goal.returns
 returns c = passes _ (places_many_4 c) (passes _ (symbols_many_3 c)
-    (places_stop _ _ _ c.test_places-tested.ensures (λ d. ⊎_elim (λ e. omega (arith, e)) (λ e. omega (arith, e)) (rw d at c.in_default.in_default-own.keys2))))
+    (places_stop _ _ _ c.test_places-tested.ensures c.in_default.not-Done))

@@ -19,4 +19,4 @@ pub returns : goal.returns
 returns c =
     let code = code_of c.args.p c.args.xs.now c.args.ys.now in
     not_solved _ _ _ _ (rw (function_left code c.args.places.now c.args.symbols.now c.args.function.now c.args.work.now c.requires.solvable c.requires.function_len.2 c.requires.function_len.0) at c.systematic_function-solved.ensures)
-    (λ d. ⊎_elim (λ e. omega (arith, e)) (λ e. omega (arith, e)) (rw d at c.in_default.in_default-own.keys2))
+    c.in_default.not-Done

@@ -53,4 +53,4 @@ returns-in-Done c =
     c.in-Done.is c.solve_both-solved.ensures
 
 pub returns : goal.returns
-returns c = solved_stop _ _ _ (λ d. ⊎_elim (λ e. omega (arith, e)) (λ e. omega (arith, e)) (rw d at c.in_default.in_default-own.keys2)) c.solve_both-solved.ensures
+returns c = solved_stop _ _ _ c.in_default.not-Done c.solve_both-solved.ensures

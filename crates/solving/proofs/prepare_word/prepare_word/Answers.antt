@@ -36,4 +36,4 @@ pub returns-in-Done : goal.returns-in-Done
 returns-in-Done c = prepared_done _ _ _ (passed_3 c) c.solve_word.ensures (c.if-not-solve_word.false)
 
 pub returns : goal.returns
-returns c = prepared_stop _ _ _ c.test_lists-tested.ensures (λ d. ⊎_elim (λ e. omega (arith, e)) (λ e. omega (arith, e)) (rw d at c.in_default.in_default-own.keys2))
+returns c = prepared_stop _ _ _ c.test_lists-tested.ensures c.in_default.not-Done

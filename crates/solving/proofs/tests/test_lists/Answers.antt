@@ -57,4 +57,4 @@ pub returns-in-Done : goal.returns-in-Done
 returns-in-Done c = (places_go _ _ (passed_3 c) _ {old = tt} {new = tt} (pass _ (says_3 c ∙ c.if-not-all_below.false) (pass _ (le-leb _ _ c.if-places-p.false) (accept refl)))).answers
 
 pub returns : goal.returns
-returns c = (places_stop _ _ {old = tt} _ c.test_places-tested.ensures (λ d. ⊎_elim (λ e. omega (arith, e)) (λ e. omega (arith, e)) (rw d at c.in_default.in_default-own.keys2))).answers
+returns c = (places_stop _ _ {old = tt} _ c.test_places-tested.ensures c.in_default.not-Done).answers

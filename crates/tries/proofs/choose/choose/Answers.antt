@@ -1,10 +1,10 @@
 use Prim.Native.Nat.{◌-◌, ◌≤◌}
-use mathlib.Core.Logic.{⊎_elim}
 use mathlib.Core.Path.{◌≡◌, ◌∙◌}
 use native.Mathlib.Omega.{arith}
 use Rattle.tries.proofs.Choosing.{Tried, tried_start, tried_takes, tried_keeps}
 use Rattle.tries.specs.Multiples.{Priced}
 use borrow.Author.Rules.{rules}
+use Rattle.tries.proofs.choose.choose.Goals.{then-c-cost, else-c-cost}
 use Rattle.tries.proofs.choose.choose.Goals as goal
 
 pub loop-j-init : goal.loop-j-init
@@ -25,10 +25,10 @@ loop-j-preserved c =
     (
       omega (arith, c.loop-j.invariant.0),
       omega (arith, c.loop-j-test.true),
-      ⊎_elim
-          (λ w. tried_takes c.args.fixed c.args.slots.now c.args.half c.args.from best c.loop-j.invariant.0 c.loop-j.invariant.2 w.0.taken w.2 (w.3 ∙ w.1.ensures))
-          (λ w. tried_keeps c.args.fixed c.args.slots.now c.args.half c.args.from best c.loop-j.invariant.0 c.loop-j.invariant.2 w.0.left w.1 w.2)
-          c.if-c-cost.branch,
+      elim c.if-c-cost.branch [
+        then-c-cost w ↦ tried_takes c.args.fixed c.args.slots.now c.args.half c.args.from best c.loop-j.invariant.0 c.loop-j.invariant.2 w.if-c-cost.true w.cost-is (w.e-is ∙ w.multiple_of-e.ensures)
+        | else-c-cost w ↦ tried_keeps c.args.fixed c.args.slots.now c.args.half c.args.from best c.loop-j.invariant.0 c.loop-j.invariant.2 w.if-c-cost.false w.cost-is w.e-is
+      ],
     )
 
 pub returns : goal.returns

@@ -2,17 +2,17 @@
 use Prim.Native.Nat.{◌-◌, ◌≤◌, min}
 use native.Mathlib.Omega.{arith}
 use native.Mathlib.Nat.{min-eq_left, min-eq_right}
-use mathlib.Core.Logic.{⊎_elim}
 use mathlib.Core.Path.{◌≡◌, refl, sym, ◌∙◌, ap}
 use Rattle.field.specs.Galois.{galois, size}
 use Rattle.elliptic.specs.Pair.{add_scaled}
 use Rattle.tries.proofs.Choosing.{tried_one, tried_both, in_one, in_low, in_high}
 use borrow.Author.Rules.{rules}
+use Rattle.tries.proofs.multiples.try_multiples.Goals.{then-most-all, else-most-all}
 use Rattle.tries.proofs.multiples.try_multiples.Goals as goal
 
 count_le : (c : goal.After-row_known-1) → c.if-most-all.count ≤ size c.args.m - 1
 count_le c =
-    ⊎_elim (λ w. omega (arith, w.1, w.0.taken, c.size-all.ensures)) (λ w. omega (arith, w.1, w.0.left, c.size-all.ensures)) c.if-most-all.branch
+    elim c.if-most-all.branch [ then-most-all w ↦ omega (arith, w.count-is, w.if-most-all.true, c.size-all.ensures) | else-most-all w ↦ omega (arith, w.count-is, w.if-most-all.false, c.size-all.ensures) ]
 
 pub try_half-requires : goal.try_half-requires
 try_half-requires c =
@@ -20,10 +20,10 @@ try_half-requires c =
 
 counted : (c : goal.After-try_half) → c.if-most-all.count ≡ min c.args.most (size c.args.m - 1)
 counted c =
-    ⊎_elim
-    (λ w. w.1 ∙ sym (min-eq_left (omega (arith, w.0.taken, c.size-all.ensures))))
-    (λ w. w.1 ∙ ap (λ n. n - 1) c.size-all.ensures ∙ sym (min-eq_right (omega (arith, w.0.left, c.size-all.ensures))))
-    c.if-most-all.branch
+    elim c.if-most-all.branch [
+      then-most-all w ↦ w.count-is ∙ sym (min-eq_left (omega (arith, w.if-most-all.true, c.size-all.ensures)))
+      | else-most-all w ↦ w.count-is ∙ ap (λ n. n - 1) c.size-all.ensures ∙ sym (min-eq_right (omega (arith, w.if-most-all.false, c.size-all.ensures)))
+    ]
 
 pub returns-then-count-lt128 : goal.returns-then-count-lt128
 returns-then-count-lt128 c =
@@ -32,7 +32,7 @@ returns-then-count-lt128 c =
 
 count_le_2 : (c : goal.Else-count-lt128) → c.if-most-all.count ≤ size c.args.m - 1
 count_le_2 c =
-    ⊎_elim (λ w. omega (arith, w.1, w.0.taken, c.size-all.ensures)) (λ w. omega (arith, w.1, w.0.left, c.size-all.ensures)) c.if-most-all.branch
+    elim c.if-most-all.branch [ then-most-all w ↦ omega (arith, w.count-is, w.if-most-all.true, c.size-all.ensures) | else-most-all w ↦ omega (arith, w.count-is, w.if-most-all.false, c.size-all.ensures) ]
 
 pub try_half-first-requires : goal.try_half-first-requires
 try_half-first-requires c =
@@ -40,7 +40,7 @@ try_half-first-requires c =
 
 count_le_3 : (c : goal.After-row_known-2-1) → c.if-most-all.count ≤ size c.args.m - 1
 count_le_3 c =
-    ⊎_elim (λ w. omega (arith, w.1, w.0.taken, c.size-all.ensures)) (λ w. omega (arith, w.1, w.0.left, c.size-all.ensures)) c.if-most-all.branch
+    elim c.if-most-all.branch [ then-most-all w ↦ omega (arith, w.count-is, w.if-most-all.true, c.size-all.ensures) | else-most-all w ↦ omega (arith, w.count-is, w.if-most-all.false, c.size-all.ensures) ]
 
 pub try_half-requires-2 : goal.try_half-requires-2
 try_half-requires-2 c =
@@ -48,10 +48,10 @@ try_half-requires-2 c =
 
 counted_2 : (c : goal.After-try_half-2) → c.if-most-all.count ≡ min c.args.most (size c.args.m - 1)
 counted_2 c =
-    ⊎_elim
-    (λ w. w.1 ∙ sym (min-eq_left (omega (arith, w.0.taken, c.size-all.ensures))))
-    (λ w. w.1 ∙ ap (λ n. n - 1) c.size-all.ensures ∙ sym (min-eq_right (omega (arith, w.0.left, c.size-all.ensures))))
-    c.if-most-all.branch
+    elim c.if-most-all.branch [
+      then-most-all w ↦ w.count-is ∙ sym (min-eq_left (omega (arith, w.if-most-all.true, c.size-all.ensures)))
+      | else-most-all w ↦ w.count-is ∙ ap (λ n. n - 1) c.size-all.ensures ∙ sym (min-eq_right (omega (arith, w.if-most-all.false, c.size-all.ensures)))
+    ]
 
 pub returns : goal.returns
 returns c =
