@@ -28,6 +28,6 @@ fill_ones-requires c = tt
 pub returns : goal.returns
 returns c =
     (
-      record { firsts = c.arrange.ensures; c.arrange-2.ensures = c.arrange-2.ensures; ones = c.fill_ones.ensures ∙ ap (table one) (c.requires.px_len.1 ∙ (accepted c.requires.placed).lengths ∙ sym c.arrange-2.ensures.size) },
+      record { firsts = c.arrange.ensures; seconds = c.arrange-2.ensures; ones = c.fill_ones.ensures ∙ ap (table one) (c.requires.px_len.1 ∙ (accepted c.requires.placed).lengths ∙ sym c.arrange-2.ensures.size) },
       c.mark.ensures ∙ ap (table (free_at c.args.places.now)) c.requires.px_len.3,
     )

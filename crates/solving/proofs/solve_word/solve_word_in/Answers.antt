@@ -27,7 +27,7 @@ restore-requires c =
     record {
       places = rw many (places_in_lem c.requires.posed.0.placed);
       apart = apart c.requires.posed.0.placed;
-      some = omega (arith, c.requires.posed.0.at_least_lem, a.k_least);
+      some = omega (arith, c.requires.posed.0.at_least, a.k_least);
       frees = c.lay_out.ensures.1 ∙ ap (table (free_at c.args.places.now)) (sym many);
       most = omega (arith, many, a.n_most);
     }
