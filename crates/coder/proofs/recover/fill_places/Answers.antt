@@ -20,5 +20,5 @@ shape_of-places c = c.loop-i.invariant.1
 
 pub returns : goal.returns
 returns c =
-    let full : c.loop-i.i ≡ length places = omega arith in
+    let full : c.loop-i.i ≡ length c.args.places.now = omega arith in
     c.loop-i.invariant.2 ∙ filled_all place_at c.args.places.now c.loop-i.i (omega arith) ∙ ap (table place_at) full

@@ -34,7 +34,7 @@ are_places : (c : goal.After-slice_known-5-1)
  take n (c.fill_places.new.places ++ drop n c.args.places.now) ≡ table place_at n
 are_places c =
     let n = length c.args.xs.now in
-    let h : n ≤ length places = omega (arith, c.requires.in_bounds.0, (accepted_done _ c.requires.ys_value).n_most) in
+    let h : n ≤ length c.args.places.now = omega (arith, c.requires.in_bounds.0, (accepted_done _ c.requires.ys_value).n_most) in
     front c.args.places.now c.fill_places.new.places n h c.fill_places.auto.places ∙ c.fill_places.ensures ∙ ap (table place_at) (length-take-le n c.args.places.now h)
 
 pub slice_bounds-recover_run-end-2 : goal.slice_bounds-recover_run-end-2
@@ -47,7 +47,7 @@ are_places_2 : (c : goal.After-recover_run-arg-3-1)
  take n (c.fill_places.new.places ++ drop n c.args.places.now) ≡ table place_at n
 are_places_2 c =
     let n = length c.args.xs.now in
-    let h : n ≤ length places = omega (arith, c.requires.in_bounds.0, (accepted_done _ c.requires.ys_value).n_most) in
+    let h : n ≤ length c.args.places.now = omega (arith, c.requires.in_bounds.0, (accepted_done _ c.requires.ys_value).n_most) in
     front c.args.places.now c.fill_places.new.places n h c.fill_places.auto.places ∙ c.fill_places.ensures ∙ ap (table place_at) (length-take-le n c.args.places.now h)
 
 pub recover_run-requires : goal.recover_run-requires

@@ -18,5 +18,5 @@ loop-i-preserved c = (omega (arith, c.loop-i-test.true), count_more _ c.loop-i.i
 
 pub returns : goal.returns
 returns c =
-    let full : c.loop-i.i ≡ length e = omega (arith, c.loop-i.invariant.0) in
+    let full : c.loop-i.i ≡ length c.args.e.now = omega (arith, c.loop-i.invariant.0) in
     c.loop-i.invariant.1 ∙ ap (λ i. length (kept_before c.args.e.now i)) full
