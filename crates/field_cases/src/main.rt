@@ -8,7 +8,8 @@ ghost use Rattle.field.specs.Galois.{IsField};
 ghost use Rattle.field.specs.Tables.{Tables};
 
 use io::print_decimal;
-use libc::STDOUT_FILENO;
+// The standard output.
+const STDOUT: i32 = 1;
 
 // After how many factors g the power is 1 again: at most 255.
 fn order(m: u8, powers: &[u8; 1021], logs: &[u16; 512], g: u8) -> u64
@@ -70,8 +71,8 @@ fn table_sum(m: u8, powers: &[u8; 1021], logs: &[u16; 512]) -> u64
 }
 
 fn show(text: &[u8], n: u64) {
-    io::write_all(STDOUT_FILENO, text);
-    print_decimal(STDOUT_FILENO, n);
+    io::write_all(STDOUT, text);
+    print_decimal(STDOUT, n);
 }
 
 fn products(m: u8, powers: &[u8; 1021], logs: &[u16; 512])
@@ -99,7 +100,7 @@ fn facts(m: u8)
     show(b": modulus ", field::modulus(m) as u64);
     show(b", size ", field::size(m) as u64);
     tables(m, &field::powers(m), &field::logarithms(m));
-    io::write_all(STDOUT_FILENO, b"\n");
+    io::write_all(STDOUT, b"\n");
 }
 
 // The examples of the standard in which this field is best known (FIPS 197), in hexadecimal: 53·CA = 01, 57·83 = C1, 57·13 = FE.
@@ -118,7 +119,7 @@ fn standard_products() {
         b", 87*19 ",
         field::product(9, &powers, &logs, 0x57, 0x13) as u64,
     );
-    io::write_all(STDOUT_FILENO, b"\n");
+    io::write_all(STDOUT, b"\n");
 }
 
 fn main() {

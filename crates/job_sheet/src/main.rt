@@ -4,10 +4,15 @@
 use basics::Answer;
 use sheet::answer::answer_sheet;
 
+// The standard streams.
+const STDIN: i32 = 0;
+
+const STDOUT: i32 = 1;
+
 // The first n bytes.
 fn write_first(out: &[u8], n: usize) {
     if n <= out.len() {
-        io::write_all(libc::STDOUT_FILENO, &out[..n]);
+        io::write_all(STDOUT, &out[..n]);
     }
 }
 
@@ -15,7 +20,7 @@ fn main() {
     // One byte more than a sheet may have, so that a longer one is seen to be too long.
     let mut text = [0u8; 4097];
     let mut out = io::buffer();
-    let count = io::read_full(libc::STDIN_FILENO, &mut text);
+    let count = io::read_full(STDIN, &mut text);
     let answer = answer_sheet(&text[..count], &mut out);
     if let Answer::Counted(n) = answer {
         write_first(&out, n);

@@ -1,6 +1,8 @@
 // What was compared in a group, and how much of it differs.
 use basics::Answer;
-use libc::STDOUT_FILENO;
+
+// The standard output.
+const STDOUT: i32 = 1;
 
 #[derive(Clone, Copy)]
 pub struct Tally {
@@ -80,12 +82,12 @@ pub fn count_of(answer: Answer) -> usize {
 }
 
 pub fn write(text: &[u8]) {
-    io::write_all(STDOUT_FILENO, text);
+    io::write_all(STDOUT, text);
 }
 
 pub fn show(text: &[u8], n: u64) {
-    io::write_all(STDOUT_FILENO, text);
-    io::print_decimal(STDOUT_FILENO, n);
+    io::write_all(STDOUT, text);
+    io::print_decimal(STDOUT, n);
 }
 
 // The end of a group's line.

@@ -12,7 +12,7 @@ use Rattle.search.proofs.block.try_block.Goals as goal
 pub returns-then-left-eq0 : goal.returns-then-left-eq0
 returns-then-left-eq0 c =
     let F = galois c.args.m in
-    let x = add_scaled F c.args.d c.args.late-row.now c.args.difference.now in
+    let x = add_scaled F c.args.d c.args.late_row.now c.args.difference.now in
     let most = size c.args.m - 1 in
     improved_none c.args.found (best_multiple F c.args.trusts.now c.args.row.now x c.args.found.cost (min c.args.left most)) c.args.late c.args.d c.args.early
     (none_tried F c.args.trusts.now c.args.row.now x c.args.found.cost c.args.left most c.if-left-eq0.true)

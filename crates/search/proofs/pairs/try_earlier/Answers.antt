@@ -1,6 +1,5 @@
 use Prim.Native.Nat.{◌-◌, ◌≤◌}
 use mathlib.Core.Path.{◌≡◌, refl, ◌∙◌}
-use mathlib.Core.Logic.{⊎_elim}
 use native.Mathlib.Omega.{arith}
 use lib.ListN.{length}
 use Rattle.field.specs.Galois.{size}
@@ -10,6 +9,7 @@ use Rattle.patterns.specs.Patterns.{down, pair}
 use Rattle.search.proofs.Running.{Going, going_start}
 use Rattle.search.proofs.Loops.{going_down, going_over, runs_over}
 use Rattle.search.proofs.Pairing.{earlier, less_pair, square_few}
+use Rattle.search.proofs.pairs.try_earlier.Goals.{then-rest-gt0, else-rest-gt0}
 use Rattle.search.proofs.pairs.try_earlier.Goals as goal
 
 pub size-some-requires : goal.size-some-requires
@@ -51,9 +51,12 @@ pub loop-i-preserved : goal.loop-i-preserved
 loop-i-preserved c =
     (
       omega (arith, c.loop-i.invariant.0),
-      ⊎_elim (λ w. rw w.5 (w.2.kept.1.1.1.1.1.1.1.1.1.1.0 ∙ c.loop-i.invariant.1)) (λ w. rw w.1 c.loop-i.invariant.1) c.if-rest-gt0.branch,
+      c.if-rest-gt0.auto.early_row ∙ c.loop-i.invariant.1,
       going_down c.loop-i.i c.loop-i-test.true (less_pair c.loop-i.rest (size c.args.p.field) c.args.p.k c.args.late.0 (size_of_3 c) (c.loop-i.i - 1) c.less-rest.ensures)
-          (⊎_elim (λ w. rw w.6 w.2.ensures) (λ w. rw w.2 (runs_over c.loop-i.rest _ w.0.left c.loop-i.invariant.2.is_try)) c.if-rest-gt0.branch) c.loop-i.invariant.2,
+          (elim c.if-rest-gt0.branch [
+            then-rest-gt0 w ↦ rw w.best-is w.try_pair-best.ensures
+            | else-rest-gt0 w ↦ rw w.best-is (runs_over c.loop-i.rest _ w.if-rest-gt0.false c.loop-i.invariant.2.is_try)
+          ]) c.loop-i.invariant.2,
     )
 
 pub shape_of-early_row : goal.shape_of-early_row

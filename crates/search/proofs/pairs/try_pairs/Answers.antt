@@ -1,6 +1,5 @@
 use Prim.Native.Nat.{◌-◌, ◌≤◌}
 use mathlib.Core.Path.{◌≡◌, refl, ◌∙◌}
-use mathlib.Core.Logic.{⊎_elim}
 use native.Mathlib.Omega.{arith}
 use lib.ListN.{length}
 use Rattle.field.specs.Galois.{size}
@@ -11,6 +10,7 @@ use Rattle.search.proofs.Running.{Going}
 use Rattle.search.proofs.Settings.{accepted}
 use Rattle.search.proofs.Loops.{going_down, going_over, runs_over}
 use Rattle.search.proofs.Pairing.{earlier, pairs_start, less_earlier, square_few, product_few}
+use Rattle.search.proofs.pairs.try_pairs.Goals.{then-rest-gt0, else-rest-gt0}
 use Rattle.search.proofs.pairs.try_pairs.Goals as goal
 
 pub size-some-requires : goal.size-some-requires
@@ -59,10 +59,13 @@ pub loop-i-preserved : goal.loop-i-preserved
 loop-i-preserved c =
     (
       omega (arith, c.loop-i.invariant.0),
-      ⊎_elim (λ w. rw w.8 (w.3.kept.1.1.1.1.1.1.1.1.1.0 ∙ c.loop-i.invariant.1)) (λ w. rw w.1 c.loop-i.invariant.1) c.if-rest-gt0.branch,
-      ⊎_elim (λ w. rw w.9 (w.3.kept.1.1.1.1.1.1.1.1.1.1.0 ∙ c.loop-i.invariant.2)) (λ w. rw w.2 c.loop-i.invariant.2) c.if-rest-gt0.branch,
+      c.if-rest-gt0.auto.late_row ∙ c.loop-i.invariant.1,
+      c.if-rest-gt0.auto.early_row ∙ c.loop-i.invariant.2,
       going_down c.loop-i.i c.loop-i-test.true (less_earlier c.loop-i.rest (size c.args.p.field) c.args.p.k (c.loop-i.i - 1) (size_of_3 c) c.less-rest.ensures)
-          (⊎_elim (λ w. rw w.10 w.3.ensures) (λ w. rw w.3 (runs_over c.loop-i.rest _ w.0.left c.loop-i.invariant.3.is_try)) c.if-rest-gt0.branch) c.loop-i.invariant.3,
+          (elim c.if-rest-gt0.branch [
+            then-rest-gt0 w ↦ rw w.best-is w.try_late-best.ensures
+            | else-rest-gt0 w ↦ rw w.best-is (runs_over c.loop-i.rest _ w.if-rest-gt0.false c.loop-i.invariant.3.is_try)
+          ]) c.loop-i.invariant.3,
     )
 
 pub shape_of-late_row : goal.shape_of-late_row

@@ -1,6 +1,5 @@
 use Prim.Native.Nat.{◌-◌, ◌≤◌}
 use mathlib.Core.Path.{◌≡◌, refl, sym, ◌∙◌, ap}
-use mathlib.Core.Logic.{⊎_elim}
 use native.Mathlib.Omega.{arith}
 use lib.ListN.{length}
 use Rattle.field.proofs.Galois.{size_ge}
@@ -9,6 +8,7 @@ use Rattle.patterns.specs.Patterns.{none, singles, down}
 use Rattle.search.specs.Search.{values, Runs}
 use Rattle.search.proofs.Running.{Going}
 use Rattle.search.proofs.Loops.{going_down, going_over, runs_over, length_values, singles_start}
+use Rattle.search.proofs.singles.try_singles.Goals.{then-rest-gt0, else-rest-gt0}
 use Rattle.search.proofs.singles.try_singles.Goals as goal
 
 pub size-some-requires : goal.size-some-requires
@@ -40,14 +40,17 @@ code c = code_of c.args.p c.args.xs.now c.args.ys.now
 tried : (c : goal.After-less-rest) →
  Runs (code c) c.args.received.now c.args.trusts.now c.loop-i.best c.loop-i.rest (values (q (code c)) (none c.args.p.k) (c.loop-i.i - 1)) c.if-rest-gt0.best
 tried c =
-    ⊎_elim (λ w. rw w.6 w.2.ensures) (λ w. rw w.2 (runs_over c.loop-i.rest _ w.0.left c.loop-i.invariant.2.is_try)) c.if-rest-gt0.branch
+    elim c.if-rest-gt0.branch [
+      then-rest-gt0 w ↦ rw w.best-is w.try_single-best.ensures
+      | else-rest-gt0 w ↦ rw w.best-is (runs_over c.loop-i.rest _ w.if-rest-gt0.false c.loop-i.invariant.2.is_try)
+    ]
 
 pub loop-i-preserved : goal.loop-i-preserved
 loop-i-preserved c =
     let some = ap (λ z. z - 1) (sym c.size-some.ensures) in
     let count = length_values (q (code c)) (none c.args.p.k) (c.loop-i.i - 1) ∙ some in (
       omega (arith, c.loop-i.invariant.0),
-      ⊎_elim (λ w. ap length w.5 ∙ w.2.kept.1.1.1.1.1.1.1.1.1.0 ∙ c.loop-i.invariant.1) (λ w. ap length w.1 ∙ c.loop-i.invariant.1) c.if-rest-gt0.branch,
+      c.if-rest-gt0.auto.row ∙ c.loop-i.invariant.1,
       going_down c.loop-i.i c.loop-i-test.true (c.less-rest.ensures ∙ ap (λ n. c.loop-i.rest - n) (sym count)) (tried c) c.loop-i.invariant.2,
     )
 

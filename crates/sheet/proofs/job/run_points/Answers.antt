@@ -33,4 +33,4 @@ returns-in-Counted c =
 pub returns : goal.returns
 returns c =
     points_stop c.args.p c.args.places.now c.args.message.now c.args.xs.now c.args.ys.now c.requires.rooms.0 c.requires.rooms.1 c.points-listed.ensures.answers
-    (λ i d. ⊎_elim (λ e. omega (arith, e)) (λ e. omega (arith, e)) (rw d at c.in_default.in_default-own.keys2))
+    c.in_default.not-Counted
