@@ -102,9 +102,9 @@ past_first {b} {c} {d} {e} {l} g i h = by (cases_cons i)
 
 last_at_least : {d a b c e : ℕ} {l : List ℕ} → d ≤ a → Rising a (b ∷ l) → In c (b ∷ l) → e ≤ c → NoLater (from d (length l) ++ e ∷ []) (b ∷ l)
 last_at_least {e = e} n (step k end) i h = step (subst (λ c. e ≤ c) (in-single i) h) end
-last_at_least n (step k (step g r)) i h =
+last_at_least {d = d} {c = c'} {e = e} n (step {a = a} {b = b} k (step {b = b'} {l = l} g r)) i h =
     let (c, more, least) = past_first g i h in
-    step (le_trans n k) (last_at_least (suc-le-suc (le_trans n k)) (step g r) more least)
+    step (le_trans n k) (last_at_least {d = suc d} (suc-le-suc (le_trans n k)) (step g r) more least)
 
 pub none_before_last : (a : ℕ) (l : List ℕ) {c e n : ℕ} → length l ≡ suc n → Rising a l → In c l → e ≤ c → NoLater (from a n ++ e ∷ []) l
 none_before_last a [] n r i h = absurd (omega arith)

@@ -60,6 +60,7 @@ kept_next (suc j) (p ∷ m) h = keep (kept_next j m (le_of_suc-le-suc h))
 -- ---- nothing is added
 
 pub kept_in_lem : {l m : List ℕ} {p : ℕ} → Kept l m → In p l → In p m
+kept_in_lem {p = p} empty i = elim i [ ]
 kept_in_lem (keep k) (here e) = here e
 kept_in_lem (keep k) (there i) = there (kept_in_lem k i)
 kept_in_lem (skip k) i = there (kept_in_lem k i)

@@ -11,8 +11,8 @@ use Rattle.abi.proofs.vakhudle_best.Goals as goal
 pub status-requires : goal.status-requires
 status-requires c =
     rw c.best.ensures.answers
-    (best_counts (code_of c.parameters-parts.result _ _) c.args.received.now c.args.trusts.now c.args.budget c.args.symbols-out.now
-    c.args.figures-out.now c.args.work.now)
+    (best_counts (code_of c.parameters-parts.result _ _) c.args.received.now c.args.trusts.now c.args.budget c.args.symbols_out.now
+    c.args.figures_out.now c.args.work.now)
 
 pub returns : goal.returns
 returns c =
