@@ -1,7 +1,7 @@
 /* What the decode matrix costs for 60 heard of 80 places, over a thousand fresh choices, beside what one would take instead. Not part of the gate.
  * On Debian, with libisal-dev, libjerasure-dev, libm4rie-dev and libm4ri-dev, from the project's root:
  *
- *     rt staticlib abi && gcc -O2 examples/peers.c -Iinclude -I/usr/include/jerasure -Ltarget/staticlib -labi \
+ *     (cd crates/abi && rt lib) && gcc -O2 examples/peers.c -Iinclude -I/usr/include/jerasure -Lcrates/abi/out -labi \
  *         -lisal -lJerasure -lm4rie -lm4ri -o target/peers && target/peers
  *
  * ISA-L and Jerasure invert the 60 rows of the heard places of a systematic Cauchy code over 256 elements, whose first 60 places are the message.

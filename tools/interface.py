@@ -69,7 +69,7 @@ def written_out(text):
 FORMS = {
     "include/vakhudle.h": (r"(?P<returned>\w+) " + NAME + ";", r"\w\(", of_c),
     "rust/src/raw.rs": (r"pub fn " + NAME + r" -> (?P<returned>\w+);", r"\bfn\b", of_rust),
-    "crates/abi/src/lib.rt": (r'#\[no_mangle\]\s+pub extern "C" fn ' + NAME + r" -> (?P<returned>\w+)", r"\bextern\b", of_rattle),
+    "crates/abi/src/lib.rt": (r'#\[unsafe\(no_mangle\)\]\s+pub extern "C" fn ' + NAME + r" -> (?P<returned>\w+)", r"\bextern\b", of_rattle),
 }
 
 

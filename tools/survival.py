@@ -1,7 +1,7 @@
 #!/usr/bin/env python3
 """Draws docs/survival.svg: how many days survive a deaf arc of 0 to 40 slots, by each version of the coder. Standard library only.
 
-    rt staticlib abi && python3 tools/survival.py
+    (cd crates/abi && rt lib) && python3 tools/survival.py
 
 A day is 24 random means, some absent. The shell turns once in 80 slots; the deaf arc covers so many slots one after the other, from each of the 80
 slots on, and runs on over the end. A day survives if all its means come back; the script stops if ever a wrong one does.
@@ -23,7 +23,7 @@ import subprocess
 import sys
 
 ROOT = pathlib.Path(__file__).resolve().parent.parent
-ARCHIVE = ROOT / "target/staticlib/libabi.a"
+ARCHIVE = ROOT / "crates/abi/out/libabi.a"
 LIBRARY = ROOT / "target/libvakhudle.so"
 PICTURE = ROOT / "docs/survival.svg"
 
@@ -37,7 +37,7 @@ ABSENT = 32767
 def library():
     """The archive as a shared object."""
     if not ARCHIVE.exists():
-        sys.exit("no target/staticlib/libabi.a: run `rt staticlib abi`")
+        sys.exit("no crates/abi/out/libabi.a: run `rt lib` in crates/abi")
     command = ["gcc", "-shared", "-o", LIBRARY, "-Wl,--whole-archive", ARCHIVE, "-Wl,--no-whole-archive"]
     subprocess.run(command, check=True)
     return ctypes.CDLL(str(LIBRARY))

@@ -1,5 +1,5 @@
 -- Y² + t·Y = v, where t is not 0: Y is t·z with z² + z = v/t², and with z so does z + 1. So a table of such z finds both Y over an X, or that there is none.
-use Prim.Native.Nat.{ℕ, zero, suc, ◌+◌, ◌≤◌, ◌<◌}
+use Prim.Native.Nat.{ℕ, ◌+◌, ◌<◌}
 use mathlib.Core.Bool.{Bool, true, false}
 use mathlib.Core.Path.{◌≡◌, refl, sym, ap, ◌∙◌}
 use mathlib.Core.List.{List, [], ◌∷◌, ◌++◌}

@@ -14,7 +14,6 @@ use borrow.Author.Tests.{eqb-true, eqb-false, eq-eqb}
 use Rattle.basics.specs.declared.Answer.{Answer}
 use Rattle.basics.specs.declared.Answer.TheVariants.{Done}
 use Rattle.basics.proofs.Lists.{both_true, all_get, all_of, get_or_map_in, same_true, same_refl}
-use Rattle.field.specs.Galois.{size}
 use Rattle.codewords.specs.Code.{Code, n, q, code_answer}
 use Rattle.codewords.specs.Codewords.{place, symbol_at, agrees, places, choice, symbols, message, codeword, agreeing, count, usable}
 use Rattle.codewords.proofs.Tests.{in_filter}

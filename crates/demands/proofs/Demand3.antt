@@ -18,7 +18,7 @@ use Rattle.basics.proofs.Lists.{both_true, both_left, both_right}
 use Rattle.basics.proofs.Outcomes.{meets_as}
 use Rattle.elliptic.specs.Functions.{nonzero}
 use Rattle.codewords.specs.Code.{Code, n, code_answer, check_code}
-use Rattle.codewords.specs.Codewords.{index, unit_message, places, choice, symbols, message, functions, agreeing, count, agreed, systematic_word, matrix, zero_on, dependent, usable, relation, pick}
+use Rattle.codewords.specs.Codewords.{index, unit_message, places, choice, symbols, message, functions, agreeing, count, agreed, systematic_word, zero_on, dependent, usable, pick}
 use Rattle.codewords.specs.Demand3.{Systematic}
 use Rattle.codewords.proofs.Tests.{fails, not_both, any_false, true_any}
 use Rattle.codewords.proofs.Accepted.{accepted_done}

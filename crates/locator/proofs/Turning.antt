@@ -2,9 +2,7 @@
 use Prim.Native.Nat.{ℕ, zero, suc, ◌+◌, ◌-◌, ◌<◌, ◌≤◌}
 use mathlib.Core.Path.{◌≡◌, refl, sym, ◌∙◌, ap, ap₂}
 use mathlib.Core.List.{List, [], ◌∷◌, ◌++◌}
-use native.Mathlib.Decide.{dec_lt}
 use native.Mathlib.Omega.{arith}
-use borrow.Author.Tests.{lt-ltb, le-ltb}
 use lib.ListN.{length, get_or, take, replicate}
 use Rattle.field.specs.Sum.{◌⊕◌}
 use Rattle.field.specs.Galois.{IsField, galois, product, inverse}
@@ -14,7 +12,7 @@ use Rattle.elliptic.specs.Pair.{add_scaled, times_linear}
 use Rattle.values.specs.Values.{gained_at}
 use Rattle.decoding.specs.Rows.{Row, top, lifted, mixed}
 use Rattle.decoding.proofs.Elements.{defect_mixed}
-use Rattle.locator.specs.Arrays.{Head, Heads, Layout, Multiples, longer, den_in, head, defect_at, MixesDen, LiftsDen, Live, Holds, Lifts, From, lifted_at, Cancels, DensTurn, TurnRoom, Turns}
+use Rattle.locator.specs.Arrays.{Head, Heads, Layout, Multiples, den_in, head, defect_at, MixesDen, LiftsDen, Live, Holds, Lifts, From, lifted_at, Cancels, DensTurn, TurnRoom, Turns}
 use Rattle.locator.proofs.Dens.{longer_most}
 
 -- the front of an array is decided by its elements

@@ -12,7 +12,7 @@ use borrow.Author.Tests.{eq-eqb, ne_eqb, not-true}
 use lib.Dec.{eqb}
 use lib.ListN.{length, get_or, set, length-set, length-map}
 use lib.Seq.{get_or-set_same, get_or-set_other}
-use Rattle.basics.specs.Lists.{table, different}
+use Rattle.basics.specs.Lists.{table}
 use Rattle.basics.proofs.Lists.{both_left, table_as, is_table, length_table, get_or_table}
 use Rattle.field.specs.Sum.{◌⊕◌}
 use Rattle.field.proofs.Sum.{⊕_self}

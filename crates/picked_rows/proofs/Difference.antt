@@ -19,7 +19,7 @@ use Rattle.field.proofs.Field.{mul_one, ·_comm, zero_lt}
 use Rattle.elliptic.specs.Pair.{add_scaled}
 use Rattle.elliptic.proofs.Points.{All, All.nil, All.cons}
 use Rattle.codewords.specs.Code.{Code, arithmetic, q, n}
-use Rattle.codewords.specs.Codewords.{index, symbol_at, symbols, all_places, places, choice, codeword, unit_message, systematic_word, row}
+use Rattle.codewords.specs.Codewords.{index, symbol_at, all_places, places, choice, codeword, unit_message, systematic_word, row}
 use Rattle.codewords.proofs.Listing.{Listed}
 use Rattle.codewords.proofs.Accepted.{Accepted, accepted_done, laws}
 use Rattle.codewords.proofs.Places.{all_at, message_listed}

@@ -9,9 +9,8 @@ use Rattle.basics.proofs.Lists.{get_or_table}
 use Rattle.basics.proofs.Loops.{next}
 use Rattle.field.specs.Galois.{galois, size}
 use Rattle.elliptic.specs.Pair.{add_scaled}
-use Rattle.codewords.specs.Code.{Code, q, n}
+use Rattle.codewords.specs.Code.{Code, q}
 use Rattle.codewords.specs.Codewords.{index, row}
-use Rattle.arrangement.specs.Arranged as arranged
 use Rattle.patterns.specs.Patterns.{each, down, amounts, none, pair, pairs}
 use Rattle.patterns.proofs.Each.{length_amounts, length_each, length_down}
 use Rattle.patterns.proofs.Patterns.{length_pair}

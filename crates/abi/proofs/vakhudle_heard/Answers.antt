@@ -4,7 +4,6 @@ use mir.Syntax.{w32}
 use mir.ValLaws.{to_z-of_z}
 use Rattle.codewords.specs.Code.{code_of}
 use Rattle.basics.proofs.Outcomes.{report}
-use borrow.Author.Rules.{rules}
 use Rattle.abi.proofs.Counts.{heard_counts}
 use Rattle.abi.proofs.vakhudle_heard.Goals as goal
 

@@ -4,7 +4,6 @@ use mir.Syntax.{w32}
 use mir.ValLaws.{to_z-of_z}
 use lib.ListN.{length}
 use Rattle.basics.proofs.Outcomes.{report}
-use borrow.Author.Rules.{rules}
 use Rattle.abi.proofs.Counts.{means_counts}
 use Rattle.abi.proofs.vakhudle_means.Goals as goal
 

@@ -5,7 +5,6 @@ use mir.Val.{to_z, of_z}
 use mir.ValLaws.{to_z-of_z}
 use Rattle.basics.proofs.Outcomes.{report}
 use Rattle.rolling.specs.Bytes.{rolling_outcome}
-use borrow.Author.Rules.{rules}
 use Rattle.abi.proofs.Counts.{rolling_counts}
 use Rattle.abi.proofs.vakhudle_rolling.Goals as goal
 

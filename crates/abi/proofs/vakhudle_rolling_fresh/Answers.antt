@@ -3,7 +3,6 @@ use mathlib.Core.Path.{◌∙◌}
 use mir.Syntax.{w32}
 use mir.ValLaws.{to_z-of_z}
 use Rattle.basics.proofs.Outcomes.{report}
-use borrow.Author.Rules.{rules}
 use Rattle.abi.proofs.Counts.{fresh_counts}
 use Rattle.abi.proofs.vakhudle_rolling_fresh.Goals as goal
 

@@ -1,7 +1,6 @@
 -- The operation's answer as a number.
 use mathlib.Core.Path.{◌∙◌}
 use native.Mathlib.Omega.{arith}
-use borrow.Author.Rules.{rules}
 use mir.Syntax.{w32}
 use mir.ValLaws.{to_z-of_z}
 use Rattle.basics.proofs.Outcomes.{report}

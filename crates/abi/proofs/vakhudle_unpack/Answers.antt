@@ -5,7 +5,6 @@ use mir.ValLaws.{to_z-of_z}
 use Rattle.codewords.specs.Code.{code_of}
 use lib.ListN.{length}
 use Rattle.basics.proofs.Outcomes.{report}
-use borrow.Author.Rules.{rules}
 use Rattle.abi.proofs.Counts.{unpack_counts}
 use Rattle.abi.proofs.vakhudle_unpack.Goals as goal
 

@@ -1,16 +1,13 @@
-use Prim.Native.Nat.{suc, ◌+◌, ◌-◌, ◌^◌, ◌≤◌, ◌<◌}
+use Prim.Native.Nat.{suc, ◌-◌, ◌≤◌}
 use mathlib.Core.Path.{◌≡◌, refl}
 use native.Mathlib.Numerals.{add-one}
 use native.Mathlib.Omega.{arith}
 use lib.Bits.{and_le_r}
 use lib.Count.{ones, count_trailing_zeros, trailing_le}
-use lib.ListN.{length, length-set}
-use lib.Seq.{sets}
+use lib.ListN.{length-set}
 use Rattle.basics.specs.SetBits.{clear_lowest}
 use Rattle.basics.proofs.SetBits.{ones_cleared}
-use Rattle.bitset.specs.Places.{places_of}
 use Rattle.bitset.proofs.Places.{places_lowest, places_none}
-use borrow.Author.Rules.{rules}
 use Rattle.bitset.proofs.list_set.Goals as goal
 
 one_fewer : (c : goal.In-loop-rest) → ones c.loop-rest.rest ≡ suc (ones (clear_lowest c.loop-rest.rest))
@@ -18,11 +15,11 @@ one_fewer c = ones_cleared 64 c.loop-rest.rest c.loop-rest.invariant.3 c.loop-re
 
 pub loop-rest-preserved : goal.loop-rest-preserved
 loop-rest-preserved c = (
-      rw (add-one c.loop-rest.at) (rw (places_lowest _ c.loop-rest.rest c.loop-rest.invariant.3 c.loop-rest-test.true) at c.loop-rest.invariant.0),
-      omega (arith, one_fewer c, c.loop-rest.invariant.1),
-      simp length-set c.loop-rest.invariant.2,
-      omega (arith, and_le_r c.loop-rest.rest (c.loop-rest.rest - 1)),
-    )
+  rw (add-one c.loop-rest.at) (rw (places_lowest _ c.loop-rest.rest c.loop-rest.invariant.3 c.loop-rest-test.true) at c.loop-rest.invariant.0),
+  omega (arith, one_fewer c, c.loop-rest.invariant.1),
+  simp length-set c.loop-rest.invariant.2,
+  omega (arith, and_le_r c.loop-rest.rest (c.loop-rest.rest - 1)),
+)
 
 pub loop-rest-init : goal.loop-rest-init
 loop-rest-init c = (refl, refl, refl, c.ranges.x.fits)

@@ -1,17 +1,10 @@
 -- The loop's invariant: what is to be written from `at` on, the places of the bits that are left, makes the buffer what it is to be.
-use Prim.Native.Nat.{suc, ◌+◌, ◌-◌, ◌^◌, ◌≤◌, ◌<◌}
-use mathlib.Core.Path.{◌≡◌, refl}
-use native.Mathlib.Numerals.{add-one}
-use native.Mathlib.Omega.{arith}
-use lib.Bits.{and_le_r}
-use lib.Count.{ones, count_trailing_zeros, trailing_le}
-use lib.ListN.{length, length-set}
+use Prim.Native.Nat.{◌+◌, ◌^◌, ◌<◌}
+use mathlib.Core.Path.{◌≡◌}
+use lib.Count.{ones}
+use lib.ListN.{length}
 use lib.Seq.{sets}
-use Rattle.basics.specs.SetBits.{clear_lowest}
-use Rattle.basics.proofs.SetBits.{ones_cleared}
 use Rattle.bitset.specs.Places.{places_of}
-use Rattle.bitset.proofs.Places.{places_lowest, places_none}
-use borrow.Author.Rules.{rules}
 use Rattle.bitset.proofs.list_set.Given as goal
 
 abbrev pub invariant-loop-rest : goal.invariant-loop-rest

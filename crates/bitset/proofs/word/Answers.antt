@@ -1,11 +1,9 @@
-use Prim.Native.Nat.{◌-◌, ◌≤◌}
 use mathlib.Core.Path.{◌≡◌, refl, sym, ◌∙◌}
 use native.Mathlib.Omega.{arith}
-use lib.ListN.{take, drop, length-drop}
+use lib.ListN.{drop, length-drop}
 use lib.Seq.{get_or-drop}
 use Rattle.basics.specs.SetBits.{Bytes, little_endian}
 use Rattle.basics.proofs.LittleEndian.{bytes_drop, little_more}
-use borrow.Author.Rules.{rules}
 use Rattle.bitset.proofs.word.Goals as goal
 
 pub loop-j-init : goal.loop-j-init

@@ -1,5 +1,4 @@
 -- Either there is no more room, or both coordinates go to the end of what is listed.
-use borrow.Author.Rules.{rules}
 use mathlib.Core.List.{◌∷◌, []}
 use Rattle.curve.proofs.Listing.{listed_one, listed_full}
 use Rattle.curve.proofs.append.Goals as goal

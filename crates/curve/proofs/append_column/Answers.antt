@@ -1,13 +1,9 @@
 use borrow.Author.Rules.{rules}
-use Prim.Native.Nat.{◌≤◌, ◌-◌}
 use mathlib.Core.Path.{◌≡◌, ◌∙◌}
-use mathlib.Core.Logic.{⊎_elim}
 use native.Mathlib.Omega.{arith}
-use Rattle.basics.specs.Lists.{filter, table}
 use Rattle.field.specs.Galois.{size}
 use Rattle.field.proofs.Galois.{size_le}
 use Rattle.elliptic.specs.Curve.{point}
-use Rattle.curve.specs.Listing.{Rooms, Appends}
 use Rattle.curve.proofs.Equation.{solution, column_as}
 use Rattle.curve.proofs.Listing.{appends_none, turn_yes, turn_no}
 use Rattle.curve.proofs.append_column.Goals.{then-solves, else-solves}
@@ -22,7 +18,7 @@ overflow_cast-b c = omega (arith, size_le c.requires.0.field)
 pub loop-y-preserved : goal.loop-y-preserved
 loop-y-preserved c =
     elim c.if-solves.branch [
-      then-solves w ↦ (
+      | then-solves w ↦ (
         omega arith,
         rw (w.xs-is, w.ys-is) (w.append-count.auto.xs ∙ c.loop-y.invariant.1.0, w.append-count.auto.ys ∙ c.loop-y.invariant.1.1),
         rw (w.xs-is, w.ys-is, w.count-is) (turn_yes (solution _ _ _) (point c.args.x) c.loop-y.y c.loop-y.invariant.2 c.solves.ensures w.if-solves.true w.append-count.ensures),
@@ -31,7 +27,8 @@ loop-y-preserved c =
         omega arith,
         rw (w.xs-is, w.ys-is) c.loop-y.invariant.1,
         rw (w.xs-is, w.ys-is, w.count-is) (turn_no (solution _ _ _) (point c.args.x) c.loop-y.y c.loop-y.invariant.2 c.solves.ensures w.if-solves.false),
-      ) ]
+      )
+    ]
 
 pub returns : goal.returns
 returns c =

@@ -1,16 +1,9 @@
 -- The invariant: the solutions below y are appended. At the end they are the points over x.
-use borrow.Author.Rules.{rules}
 use Prim.Native.Nat.{◌≤◌, ◌-◌}
-use mathlib.Core.Path.{◌≡◌, ◌∙◌}
-use mathlib.Core.Logic.{⊎_elim}
-use native.Mathlib.Omega.{arith}
 use Rattle.basics.specs.Lists.{filter, table}
-use Rattle.field.specs.Galois.{size}
-use Rattle.field.proofs.Galois.{size_le}
 use Rattle.elliptic.specs.Curve.{point}
 use Rattle.curve.specs.Listing.{Rooms, Appends}
-use Rattle.curve.proofs.Equation.{solution, column_as}
-use Rattle.curve.proofs.Listing.{appends_none, turn_yes, turn_no}
+use Rattle.curve.proofs.Equation.{solution}
 use Rattle.curve.proofs.append_column.Given as goal
 
 abbrev pub invariant-loop-y : goal.invariant-loop-y

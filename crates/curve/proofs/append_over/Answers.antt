@@ -1,5 +1,4 @@
 -- A scan, no point, or two, as was found.
-use borrow.Author.Rules.{rules}
 use Rattle.curve.proofs.Listing.{appends_none}
 use Rattle.curve.proofs.append_over.Goals as goal
 

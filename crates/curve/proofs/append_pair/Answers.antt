@@ -1,5 +1,4 @@
 -- One point after the other.
-use borrow.Author.Rules.{rules}
 use mathlib.Core.Path.{◌≡◌, ap, ◌∙◌}
 use Rattle.field.specs.Sum.{◌⊕◌}
 use Rattle.curve.specs.Roots.{lesser}

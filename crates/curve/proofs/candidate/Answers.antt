@@ -1,5 +1,4 @@
 -- The calls solve the two conditions one after the other.
-use borrow.Author.Rules.{rules}
 use Rattle.point_count.specs.Singular.{candidate}
 use Rattle.curve.proofs.candidate.Goals as goal
 

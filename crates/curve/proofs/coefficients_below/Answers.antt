@@ -1,5 +1,4 @@
 -- Coefficient after coefficient.
-use borrow.Author.Rules.{rules}
 use mathlib.Core.Path.{◌≡◌}
 use mathlib.Core.Bool.{true, and-true}
 use native.Mathlib.Omega.{arith}

@@ -1,10 +1,7 @@
-use borrow.Author.Rules.{rules}
-use Prim.Native.Nat.{◌≤◌, ◌-◌}
 use mathlib.Core.Path.{◌≡◌}
 use native.Mathlib.Omega.{arith}
 use Rattle.field.specs.Galois.{size}
 use Rattle.field.proofs.Galois.{size_le}
-use Rattle.curve.specs.Roots.{AllFound}
 use Rattle.curve.proofs.Quadratic.{found_more}
 use Rattle.curve.proofs.fill_found.Goals as goal
 

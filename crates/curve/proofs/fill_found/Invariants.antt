@@ -1,12 +1,6 @@
 -- The invariant: what is below x is found.
-use borrow.Author.Rules.{rules}
 use Prim.Native.Nat.{◌≤◌, ◌-◌}
-use mathlib.Core.Path.{◌≡◌}
-use native.Mathlib.Omega.{arith}
-use Rattle.field.specs.Galois.{size}
-use Rattle.field.proofs.Galois.{size_le}
 use Rattle.curve.specs.Roots.{AllFound}
-use Rattle.curve.proofs.Quadratic.{found_more}
 use Rattle.curve.proofs.fill_found.Given as goal
 
 abbrev pub invariant-loop-x : goal.invariant-loop-x

@@ -1,12 +1,10 @@
 use borrow.Author.Rules.{rules}
-use Prim.Native.Nat.{◌≤◌, ◌-◌}
 use mathlib.Core.Path.{◌≡◌, ap, ◌∙◌}
 use native.Mathlib.Omega.{arith}
 use Rattle.basics.specs.Lists.{filter}
 use Rattle.field.specs.Galois.{size, galois}
 use Rattle.field.proofs.Galois.{size_le}
 use Rattle.elliptic.specs.Curve.{columns, on_curve, affine_points}
-use Rattle.curve.specs.Listing.{Rooms, Listed}
 use Rattle.curve.proofs.Listing.{listed_none, listed_as, column_turn}
 use Rattle.curve.proofs.fill_points.Goals as goal
 
@@ -24,12 +22,11 @@ append_over-count-requires c =
     (search rules, c.find_all-found.ensures.at c.loop-x.x (omega arith), search rules)
 
 pub loop-x-preserved : goal.loop-x-preserved
-loop-x-preserved c =
-    (
-      omega arith,
-      (c.append_over-count.auto.xs ∙ c.loop-x.invariant.1.0, c.append_over-count.auto.ys ∙ c.loop-x.invariant.1.1),
-      column_turn (on_curve (galois c.args.m) c.args.c) (size c.args.m) c.loop-x.x c.requires.c_value.1 c.loop-x.invariant.2 c.append_over-count.ensures,
-    )
+loop-x-preserved c = (
+  omega arith,
+  (c.append_over-count.auto.xs ∙ c.loop-x.invariant.1.0, c.append_over-count.auto.ys ∙ c.loop-x.invariant.1.1),
+  column_turn (on_curve (galois c.args.m) c.args.c) (size c.args.m) c.loop-x.x c.requires.c_value.1 c.loop-x.invariant.2 c.append_over-count.ensures,
+)
 
 pub returns : goal.returns
 unfolding affine_points

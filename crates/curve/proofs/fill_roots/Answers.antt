@@ -1,11 +1,9 @@
-use borrow.Author.Rules.{rules}
-use Prim.Native.Nat.{◌≤◌, ◌-◌}
 use mathlib.Core.Path.{◌≡◌, ap, ◌∙◌}
 use native.Mathlib.Omega.{arith}
 use Rattle.field.specs.Sum.{◌⊕◌}
 use Rattle.field.specs.Galois.{size, product}
 use Rattle.field.proofs.Galois.{size_le, galois_field}
-use Rattle.curve.specs.Roots.{square_plus, Inverts}
+use Rattle.curve.specs.Roots.{square_plus}
 use Rattle.curve.proofs.Quadratic.{inverts_more}
 use Rattle.curve.proofs.fill_roots.Goals as goal
 

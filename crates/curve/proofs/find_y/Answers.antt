@@ -1,5 +1,4 @@
 -- The quadratic's solution by the table of roots.
-use borrow.Author.Rules.{rules}
 use Rattle.curve.proofs.Quadratic.{found}
 use Rattle.curve.proofs.find_y.Goals as goal
 

@@ -1,5 +1,4 @@
 -- Either g3 decides, or the one point at which the curve can be singular.
-use borrow.Author.Rules.{rules}
 use mathlib.Core.Path.{sym}
 use Rattle.field.proofs.Galois.{galois_field}
 use Rattle.point_count.proofs.Singular.{singular_flat, singular_candidate}

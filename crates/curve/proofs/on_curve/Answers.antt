@@ -1,5 +1,4 @@
 -- The trace and the right side, and then the curve's equation as a quadratic in Y.
-use borrow.Author.Rules.{rules}
 use Rattle.field.proofs.Galois.{galois_field}
 use Rattle.curve.proofs.Equation.{on_product}
 use Rattle.curve.proofs.on_curve.Goals as goal

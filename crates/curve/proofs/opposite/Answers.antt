@@ -1,5 +1,4 @@
 -- The trace is added to Y.
-use borrow.Author.Rules.{rules}
 use Rattle.field.proofs.Sum.{⊕_assoc}
 use Rattle.elliptic.specs.Curve.{opposite}
 use Rattle.curve.proofs.opposite.Goals as goal

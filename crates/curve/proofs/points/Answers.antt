@@ -1,10 +1,9 @@
 -- Test after test, and then the callee lists the points, for which there is room.
-use borrow.Author.Rules.{rules}
 use Prim.Native.Nat.{ℕ, ◌≤◌}
 use mathlib.Core.Path.{◌≡◌, sym, ap, ◌∙◌}
 use mathlib.Core.Bool.{true, not}
 use mathlib.Core.List.{List}
-use borrow.Author.Tests.{eq-eqb, ne_eqb, not-true, not-false}
+use borrow.Author.Tests.{eq-eqb, ne_eqb}
 use lib.ListN.{length}
 use Rattle.basics.specs.Outcome.{Outcome, check, Meets}
 use Rattle.basics.specs.declared.Answer.{Answer}

@@ -1,5 +1,4 @@
 -- The calls in their order are Horner's rule.
-use borrow.Author.Rules.{rules}
 use Rattle.field.proofs.Galois.{galois_field}
 use Rattle.curve.proofs.Equation.{right_horner}
 use Rattle.curve.proofs.right.Goals as goal

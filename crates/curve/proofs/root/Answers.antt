@@ -1,5 +1,4 @@
 -- The table's entry at the quotient of the quotient.
-use borrow.Author.Rules.{rules}
 use Rattle.curve.proofs.root.Goals as goal
 
 pub returns : goal.returns

@@ -1,5 +1,4 @@
 -- The product and its test, as they stand.
-use borrow.Author.Rules.{rules}
 use Rattle.curve.proofs.solves.Goals as goal
 
 pub returns : goal.returns

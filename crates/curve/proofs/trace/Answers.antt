@@ -1,5 +1,4 @@
 -- The sum of the product and g3, as it stands.
-use borrow.Author.Rules.{rules}
 use Rattle.curve.proofs.trace.Goals as goal
 
 pub returns : goal.returns

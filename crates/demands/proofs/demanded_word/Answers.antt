@@ -1,5 +1,4 @@
 -- The contract of Systematic word is that this is a call of it, and demand 3 is of calls.
-use borrow.Author.Rules.{rules}
 use Rattle.demands.proofs.Demand3.{demand3}
 use Rattle.demands.proofs.demanded_word.Goals as goal
 

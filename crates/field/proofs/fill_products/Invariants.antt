@@ -1,11 +1,8 @@
 -- The loop's invariant: the first i products are in place, and the rest of the buffer is as it was.
 use Prim.Native.Nat.{◌≤◌, ◌-◌}
-use mathlib.Core.Path.{◌≡◌, refl, ap, ◌∙◌}
-use native.Mathlib.Omega.{arith}
-use borrow.Author.Rules.{rules}
-use lib.ListN.{length, length-set}
-use Rattle.basics.specs.Lists.{table}
-use Rattle.basics.proofs.Loops.{filled, filled_turn, filled_all}
+use mathlib.Core.Path.{◌≡◌}
+use lib.ListN.{length}
+use Rattle.basics.proofs.Loops.{filled}
 use Rattle.field.specs.Products.{product_at}
 use Rattle.field.proofs.fill_products.Given as goal
 

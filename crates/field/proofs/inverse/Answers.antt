@@ -1,5 +1,4 @@
 -- The exponents of an element and of its inverse add up to the period.
-use borrow.Author.Rules.{rules}
 use mathlib.Core.Path.{◌∙◌}
 use native.Mathlib.Omega.{arith}
 use native.Mathlib.Nat.{zero-add}

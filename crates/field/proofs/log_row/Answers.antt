@@ -3,7 +3,6 @@ use Prim.Native.Nat.{◌-◌}
 use mathlib.Core.Path.{ap}
 use mathlib.Core.List.{[], ◌∷◌}
 use native.Mathlib.Omega.{arith}
-use borrow.Author.Rules.{rules}
 use Rattle.field.specs.Galois.{rows}
 use Rattle.field.specs.Tables.{byte_log_table}
 use Rattle.field.proofs.Computed.{all_below, rows_test, tested, tested_back}

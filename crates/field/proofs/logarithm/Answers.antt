@@ -1,5 +1,4 @@
 -- The table's entry.
-use borrow.Author.Rules.{rules}
 use Rattle.field.proofs.Lookup.{log_entry}
 use Rattle.field.proofs.logarithm.Goals as goal
 

@@ -1,6 +1,5 @@
 -- The constant table holds the definition's row for each field number.
 use mathlib.Core.List.{[], ◌∷◌}
-use borrow.Author.Rules.{rules}
 use Rattle.field.proofs.Computed.{all_below, numbers_test, by_number}
 use Rattle.field.specs.Galois.{rows, modulus}
 use Rattle.field.proofs.modulus.Goals as goal

@@ -1,5 +1,4 @@
 -- The table's entry.
-use borrow.Author.Rules.{rules}
 use Rattle.field.proofs.Lookup.{neg_entry}
 use Rattle.field.proofs.neg_logarithm.Goals as goal
 

@@ -1,5 +1,4 @@
 -- The size is from 4 to 256.
-use borrow.Author.Rules.{rules}
 use native.Mathlib.Omega.{arith}
 use Rattle.field.proofs.Galois.{size_le, size_ge}
 use Rattle.field.proofs.period.Goals as goal

@@ -1,5 +1,4 @@
 -- The table's entry.
-use borrow.Author.Rules.{rules}
 use Rattle.field.proofs.power.Goals as goal
 
 pub returns : goal.returns

@@ -1,7 +1,6 @@
 -- The row twice, and the zeros that were there.
 use mathlib.Core.Path.{refl, ap, ◌∙◌}
 use native.Mathlib.Omega.{arith}
-use borrow.Author.Rules.{rules}
 use lib.ListN.{length, replicate}
 use lib.Seq.{length-paste}
 use Rattle.field.specs.Tables.{power_table, exp_table}

@@ -1,5 +1,4 @@
 -- The exponents add up.
-use borrow.Author.Rules.{rules}
 use mathlib.Core.Path.{◌∙◌}
 use Rattle.field.proofs.Lookup.{is_log, log_le, by_sum}
 use Rattle.field.proofs.product_by_log.Goals as goal

@@ -1,11 +1,10 @@
 -- Test after test, and then the callee fills the buffer.
 use mathlib.Core.Path.{◌≡◌, sym, ◌∙◌}
 use mathlib.Core.Bool.{true}
-use borrow.Author.Tests.{eq-eqb, ne_eqb, not-true, not-false}
+use borrow.Author.Tests.{eq-eqb, ne_eqb}
 use Rattle.basics.proofs.Outcomes.{pass, refuse, accept}
 use Rattle.field.specs.Galois.{is_field}
 use Rattle.field.proofs.Galois.{is_field_lem}
-use borrow.Author.Rules.{rules}
 use Rattle.field.proofs.products.Goals as goal
 
 pub returns-then-not-is_field : goal.returns-then-not-is_field

@@ -1,11 +1,10 @@
-use Prim.Native.Nat.{◌≤◌, ◌<◌, ◌-◌}
+use Prim.Native.Nat.{◌<◌}
 use mathlib.Core.Path.{◌≡◌, sym, ap, ◌∙◌}
 use native.Mathlib.Omega.{arith}
-use borrow.Author.Rules.{rules}
 use native.Mathlib.Nat.{zero-add}
 use lib.ListN.{get_or}
 use lib.Seq.{paste, paste-zero}
-use Rattle.field.specs.Tables.{widened, log_table}
+use Rattle.field.specs.Tables.{log_table}
 use Rattle.field.proofs.Lookup.{length_logs, log_at_byte, wide_byte}
 use Rattle.field.proofs.Pastes.{paste_turn}
 use Rattle.field.proofs.put_logs.Goals as goal

@@ -1,10 +1,9 @@
-use Prim.Native.Nat.{◌≤◌, ◌<◌, ◌-◌}
+use Prim.Native.Nat.{◌<◌}
 use mathlib.Core.Path.{◌≡◌, sym, ap, ◌∙◌}
 use native.Mathlib.Omega.{arith}
-use borrow.Author.Rules.{rules}
 use lib.ListN.{get_or}
 use lib.Seq.{paste, paste-zero}
-use Rattle.field.specs.Tables.{negated, neg_log_table}
+use Rattle.field.specs.Tables.{neg_log_table}
 use Rattle.field.proofs.Lookup.{length_neg_logs, neg_at_byte, byte_le, negated_byte}
 use Rattle.field.proofs.Pastes.{paste_turn}
 use Rattle.field.proofs.put_neg_logs.Goals as goal

@@ -1,7 +1,5 @@
-use Prim.Native.Nat.{◌≤◌, ◌-◌}
 use mathlib.Core.Path.{◌≡◌, refl, ap, ◌∙◌}
 use native.Mathlib.Omega.{arith}
-use borrow.Author.Rules.{rules}
 use lib.Seq.{paste, paste-zero}
 use Rattle.field.proofs.Pastes.{paste_turn}
 use Rattle.field.proofs.put_powers.Goals as goal

@@ -1,10 +1,7 @@
 -- The loop copies the row, from the index on.
 use Prim.Native.Nat.{◌≤◌, ◌-◌}
-use mathlib.Core.Path.{◌≡◌, refl, ap, ◌∙◌}
-use native.Mathlib.Omega.{arith}
-use borrow.Author.Rules.{rules}
-use lib.Seq.{paste, paste-zero}
-use Rattle.field.proofs.Pastes.{paste_turn}
+use mathlib.Core.Path.{◌≡◌}
+use lib.Seq.{paste}
 use Rattle.field.proofs.put_powers.Given as goal
 
 abbrev pub invariant-loop-i : goal.invariant-loop-i

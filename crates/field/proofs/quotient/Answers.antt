@@ -1,5 +1,4 @@
 -- The exponents of an element and of an inverse add up.
-use borrow.Author.Rules.{rules}
 use mathlib.Core.Path.{◌∙◌}
 use Rattle.field.proofs.Lookup.{is_log, log_le, neg_le, quotient_sum}
 use Rattle.field.proofs.quotient.Goals as goal

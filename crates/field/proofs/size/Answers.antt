@@ -1,5 +1,4 @@
 -- The shift loses nothing, since a width is at most 8.
-use borrow.Author.Rules.{rules}
 use native.Mathlib.Nat.{mod-eq_of_lt, one-mul}
 use native.Mathlib.Omega.{arith}
 use Rattle.field.specs.Galois.{size}

@@ -1,5 +1,4 @@
 -- The loop goes over the field numbers, of which 9 is the last.
-use borrow.Author.Rules.{rules}
 use Prim.Native.Nat.{◌-◌, ◌≤◌}
 use Rattle.field_cases.proofs.main.Given as goal
 

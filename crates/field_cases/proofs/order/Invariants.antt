@@ -1,5 +1,4 @@
 -- No value is claimed: the loop ends, and nothing overflows.
-use borrow.Author.Rules.{rules}
 use Prim.Native.Nat.{◌-◌}
 use Rattle.field_cases.proofs.order.Given as goal
 

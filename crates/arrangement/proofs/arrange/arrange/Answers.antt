@@ -1,7 +1,6 @@
 -- First the chosen coordinates, and then the others behind them.
 use mathlib.Core.Path.{sym}
 use lib.Seq.{length-take-le}
-use borrow.Author.Rules.{rules}
 use Rattle.arrangement.proofs.Arranged.{places_fit, front_chosen, front_gathered, front_arrangeable}
 use Rattle.arrangement.proofs.arrange.arrange.Goals as goal
 

@@ -1,10 +1,8 @@
 use mathlib.Core.Path.{◌≡◌, refl, ◌∙◌}
-use Prim.Native.Nat.{◌-◌, ◌≤◌}
 use native.Mathlib.Omega.{arith}
 use lib.ListN.{length, length-set}
-use Rattle.basics.proofs.Loops.{filled, filled_turn, filled_all}
+use Rattle.basics.proofs.Loops.{filled_turn, filled_all}
 use Rattle.values.specs.Values.{one}
-use borrow.Author.Rules.{rules}
 use Rattle.arrangement.proofs.arrange.fill_ones.Goals as goal
 
 pub loop-i-init : goal.loop-i-init

@@ -1,11 +1,9 @@
 -- The loop's invariant: ones up to i, and the rest as it was.
-use mathlib.Core.Path.{◌≡◌, refl, ◌∙◌}
+use mathlib.Core.Path.{◌≡◌}
 use Prim.Native.Nat.{◌-◌, ◌≤◌}
-use native.Mathlib.Omega.{arith}
-use lib.ListN.{length, length-set}
-use Rattle.basics.proofs.Loops.{filled, filled_turn, filled_all}
+use lib.ListN.{length}
+use Rattle.basics.proofs.Loops.{filled}
 use Rattle.values.specs.Values.{one}
-use borrow.Author.Rules.{rules}
 use Rattle.arrangement.proofs.arrange.fill_ones.Given as goal
 
 abbrev pub invariant-loop-i : goal.invariant-loop-i

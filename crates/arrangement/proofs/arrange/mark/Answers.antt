@@ -1,13 +1,12 @@
-use Prim.Native.Nat.{◌≤◌, ◌-◌}
+use Prim.Native.Nat.{◌-◌}
 use mathlib.Core.Path.{◌≡◌, refl, sym, ◌∙◌, ap}
 use mathlib.Core.List.{[]}
 use native.Mathlib.Omega.{arith}
-use lib.ListN.{length, get_or, take, length-set}
+use lib.ListN.{get_or, length-set}
 use lib.Seq.{take_all}
 use Rattle.basics.specs.Lists.{table}
 use Rattle.arrangement.specs.Arranged.{free_at}
 use Rattle.arrangement.proofs.Arranged.{free_turn}
-use borrow.Author.Rules.{rules}
 use Rattle.arrangement.proofs.arrange.mark.Goals as goal
 
 pub fill_ones-requires : goal.fill_ones-requires

@@ -1,14 +1,9 @@
 -- The loop's invariant: the first j places are marked.
 use Prim.Native.Nat.{◌≤◌, ◌-◌}
-use mathlib.Core.Path.{◌≡◌, refl, sym, ◌∙◌, ap}
-use mathlib.Core.List.{[]}
-use native.Mathlib.Omega.{arith}
-use lib.ListN.{length, get_or, take, length-set}
-use lib.Seq.{take_all}
+use mathlib.Core.Path.{◌≡◌}
+use lib.ListN.{length, take}
 use Rattle.basics.specs.Lists.{table}
 use Rattle.arrangement.specs.Arranged.{free_at}
-use Rattle.arrangement.proofs.Arranged.{free_turn}
-use borrow.Author.Rules.{rules}
 use Rattle.arrangement.proofs.arrange.mark.Given as goal
 
 abbrev pub invariant-loop-j : goal.invariant-loop-j

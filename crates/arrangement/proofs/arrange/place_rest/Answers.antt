@@ -1,9 +1,8 @@
-use Prim.Native.Nat.{◌-◌, ◌<◌}
+use Prim.Native.Nat.{◌<◌}
 use mathlib.Core.Path.{sym, ◌∙◌}
 use native.Mathlib.Omega.{arith}
 use lib.ListN.{length}
-use Rattle.arrangement.proofs.Arranged.{marks_long, ArrangedTo, arranged_none, point_left, mark_small, arranged_turn, arranged_all}
-use borrow.Author.Rules.{rules}
+use Rattle.arrangement.proofs.Arranged.{marks_long, arranged_none, point_left, mark_small, arranged_turn, arranged_all}
 use Rattle.arrangement.proofs.arrange.place_rest.Goals as goal
 
 pub loop-s-init : goal.loop-s-init

@@ -1,10 +1,7 @@
 -- The loop's invariant: the free coordinates before t are in place, and s is where the next one goes.
-use Prim.Native.Nat.{◌-◌, ◌<◌}
-use mathlib.Core.Path.{sym, ◌∙◌}
-use native.Mathlib.Omega.{arith}
+use Prim.Native.Nat.{◌-◌}
 use lib.ListN.{length}
-use Rattle.arrangement.proofs.Arranged.{marks_long, ArrangedTo, arranged_none, point_left, mark_small, arranged_turn, arranged_all}
-use borrow.Author.Rules.{rules}
+use Rattle.arrangement.proofs.Arranged.{ArrangedTo}
 use Rattle.arrangement.proofs.arrange.place_rest.Given as goal
 
 abbrev pub invariant-loop-s : goal.invariant-loop-s

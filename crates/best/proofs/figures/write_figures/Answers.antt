@@ -1,6 +1,5 @@
 -- The size of the field bounds the amounts; the three stores are all of the list.
 use native.Mathlib.Omega.{arith}
-use borrow.Author.Rules.{rules}
 use Rattle.best.proofs.Stores.{all_stored, amounts_least, amounts_most}
 use Rattle.best.proofs.figures.write_figures.Goals as goal
 

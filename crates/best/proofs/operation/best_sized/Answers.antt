@@ -1,14 +1,12 @@
 -- The tests of the symbols and of the budget, and then the word and its figures.
 use mathlib.Core.Path.{◌≡◌, sym, ◌∙◌, ap}
 use mathlib.Core.Bool.{true}
-use borrow.Author.Tests.{not-true, not-false}
 use Rattle.basics.specs.Lists.{all}
 use Rattle.basics.proofs.Outcomes.{pass, refuse}
 use Rattle.code.specs.Lists.{is_below}
 use Rattle.codewords.specs.Code.{code_of}
 use Rattle.codewords.specs.Codewords.{symbols}
 use Rattle.best.proofs.Testing.{no_budget, high_budget, in_budget, accept_three}
-use borrow.Author.Rules.{rules}
 use Rattle.best.proofs.operation.best_sized.Goals as goal
 
 -- what the test of the symbols says
@@ -52,14 +50,17 @@ are_symbols_3 c = says_4 c ∙ c.if-not-all_below.false
 
 pub best_run-requires : goal.best_run-requires
 best_run-requires c =
-    record { tables = c.requires.tables; given = (
+    record {
+      tables = c.requires.tables;
+      given = (
         record { done = c.requires.ys_value; small = are_symbols_3 c; size = c.requires.received_len.0; trusted = c.requires.received_len.1 },
         c.requires.received_len.2,
         c.requires.received_len.3,
         c.requires.received_len.4,
         c.if-budget-lt1.false,
         c.if-budget-gt65535.false,
-      ) }
+      );
+    }
 
 -- what the test of the symbols says
 says_5 : (c : goal.After-slice_known-6-1) → symbols (code_of c.args.p c.args.xs.now c.args.ys.now) c.args.received.now ≡ c.all_below.result

@@ -6,7 +6,6 @@ use lib.ListN.{length}
 use lib.Seq.{length-take-le}
 use Rattle.codewords.proofs.Accepted.{accepted_done}
 use Rattle.best.proofs.Beginning.{ranked_placed, ranked_more, ranked_given, room_spared}
-use borrow.Author.Rules.{rules}
 use Rattle.best.proofs.run.begin_best.Goals as goal
 
 -- a code has at most 288 points

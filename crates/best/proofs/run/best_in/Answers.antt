@@ -8,12 +8,11 @@ use Rattle.codewords.specs.Code.{code_of}
 use Rattle.codewords.proofs.Accepted.{accepted_done}
 use Rattle.search.proofs.Settings.{trust_places}
 use Rattle.best.proofs.Beginning.{cleared_same, figures_by}
-use borrow.Author.Rules.{rules}
 use Rattle.best.proofs.run.best_in.Goals as goal
 
 -- there are more than k places
 part : (c : goal.After-slice_known-7-1) →
- (c.args.p.k ≤ length c.begin_best.new.ranked) × (length (take c.args.p.k c.begin_best.new.ranked) ≡ c.args.p.k)
+    (c.args.p.k ≤ length c.begin_best.new.ranked) × (length (take c.args.p.k c.begin_best.new.ranked) ≡ c.args.p.k)
 part c =
     let fits : c.args.p.k ≤ length c.begin_best.new.ranked
     = omega (arith, c.begin_best.auto.ranked, c.requires.given.1, (accepted_done _ c.requires.given.0.done).k_most) in
@@ -31,7 +30,7 @@ find_best-cost-requires c =
 
 -- there are more than k places
 part_2 : (c : goal.After-slice_known-8-1) →
- (c.args.p.k ≤ length c.begin_best.new.ranked) × (length (take c.args.p.k c.begin_best.new.ranked) ≡ c.args.p.k)
+    (c.args.p.k ≤ length c.begin_best.new.ranked) × (length (take c.args.p.k c.begin_best.new.ranked) ≡ c.args.p.k)
 part_2 c =
     let fits : c.args.p.k ≤ length c.begin_best.new.ranked
     = omega (arith, c.begin_best.auto.ranked, c.requires.given.1, (accepted_done _ c.requires.given.0.done).k_most) in
@@ -45,7 +44,7 @@ slice_bounds-write_figures-end-2 c = sym (part_2 c).1
 
 -- there are more than k places
 part_3 : (c : goal.After-write_figures-arg-1) →
- (c.args.p.k ≤ length c.begin_best.new.ranked) × (length (take c.args.p.k c.begin_best.new.ranked) ≡ c.args.p.k)
+    (c.args.p.k ≤ length c.begin_best.new.ranked) × (length (take c.args.p.k c.begin_best.new.ranked) ≡ c.args.p.k)
 part_3 c =
     let fits : c.args.p.k ≤ length c.begin_best.new.ranked
     = omega (arith, c.begin_best.auto.ranked, c.requires.given.1, (accepted_done _ c.requires.given.0.done).k_most) in
@@ -60,10 +59,9 @@ pub clear_room-requires : goal.clear_room-requires
 clear_room-requires c = omega (arith, c.begin_best.auto.work, c.requires.given.4)
 
 pub returns : goal.returns
-returns c =
-    (
-      c.find_best-cost.ensures.0,
-      figures_by (code_of c.args.p c.args.xs.now c.args.ys.now) c.args.received.now c.args.trusts.now c.args.budget c.begin_best.ensures.0.given c.requires.given.5
-          c.find_best-cost.ensures.1 c.write_figures.ensures,
-      c.clear_room.ensures ∙ cleared_same c.args.work.now c.begin_best.new.work c.begin_best.ensures.1,
-    )
+returns c = (
+  c.find_best-cost.ensures.0,
+  figures_by (code_of c.args.p c.args.xs.now c.args.ys.now) c.args.received.now c.args.trusts.now c.args.budget c.begin_best.ensures.0.given c.requires.given.5
+      c.find_best-cost.ensures.1 c.write_figures.ensures,
+  c.clear_room.ensures ∙ cleared_same c.args.work.now c.begin_best.new.work c.begin_best.ensures.1,
+)

@@ -4,7 +4,6 @@ use mathlib.Core.Path.{sym}
 use lib.ListN.{length}
 use lib.Seq.{length-take-le}
 use Rattle.codewords.proofs.Accepted.{accepted_done}
-use borrow.Author.Rules.{rules}
 use Rattle.best.proofs.run.best_run.Goals as goal
 
 -- a code has at most 288 points

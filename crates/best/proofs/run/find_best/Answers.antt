@@ -3,7 +3,6 @@ use mathlib.Core.Path.{sym, ◌∙◌}
 use Prim.Native.Nat.{◌≤◌}
 use lib.ListN.{length, drop, replicate}
 use lib.Seq.{length-take-le}
-use borrow.Author.Rules.{rules}
 use Rattle.codewords.proofs.Accepted.{accepted_done}
 use Rattle.best.proofs.Words.{found_best}
 use Rattle.best.proofs.Stores.{lent_again}
@@ -43,8 +42,16 @@ few_5 c = (accepted_done _ c.requires.prepared.0.given.done).n_most
 
 pub write_word-requires : goal.write_word-requires
 write_word-requires c =
-    record { tables = c.requires.tables; prepared = (c.requires.prepared.0, c.search-found.ensures.is_try, length-take-le _ _ ((
-    lent_again c.search-found.new.early_row (drop (length c.args.xs.now) (replicate 288 0)) (c.search-found.auto.early_row ∙ length-take-le _ _ (few_5 c)))), c.search-found.auto.late_row ∙ c.requires.prepared.1) }
+    record {
+      tables = c.requires.tables;
+      prepared = (
+        c.requires.prepared.0,
+        c.search-found.ensures.is_try,
+        length-take-le _ _ ((
+            lent_again c.search-found.new.early_row (drop (length c.args.xs.now) (replicate 288 0)) (c.search-found.auto.early_row ∙ length-take-le _ _ (few_5 c)))),
+        c.search-found.auto.late_row ∙ c.requires.prepared.1,
+      );
+    }
 
 pub returns : goal.returns
 returns c = found_best c.search-found.ensures c.write_word.ensures

@@ -1,10 +1,7 @@
-use mathlib.Core.Path.{◌≡◌, refl, sym, ◌∙◌}
-use Prim.Native.Nat.{◌-◌}
+use mathlib.Core.Path.{refl, sym, ◌∙◌}
 use native.Mathlib.Omega.{arith}
-use lib.ListN.{length, length-set}
-use borrow.Author.Rules.{rules}
-use Rattle.patterns.specs.Best.{changed}
-use Rattle.best.proofs.Words.{applied, apply_turn, apply_end}
+use lib.ListN.{length-set}
+use Rattle.best.proofs.Words.{apply_turn, apply_end}
 use Rattle.best.proofs.write.apply.Goals as goal
 
 pub loop-i-init : goal.loop-i-init

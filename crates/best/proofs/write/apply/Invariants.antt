@@ -1,11 +1,9 @@
 -- The loop's invariant: what is written, and what the rest is to become, is the changed word.
-use mathlib.Core.Path.{◌≡◌, refl, sym, ◌∙◌}
+use mathlib.Core.Path.{◌≡◌}
 use Prim.Native.Nat.{◌-◌}
-use native.Mathlib.Omega.{arith}
-use lib.ListN.{length, length-set}
-use borrow.Author.Rules.{rules}
+use lib.ListN.{length}
 use Rattle.patterns.specs.Best.{changed}
-use Rattle.best.proofs.Words.{applied, apply_turn, apply_end}
+use Rattle.best.proofs.Words.{applied}
 use Rattle.best.proofs.write.apply.Given as goal
 
 abbrev pub invariant-loop-i : goal.invariant-loop-i

@@ -1,6 +1,5 @@
 -- The moments of the calls give what the law of the word asks for.
 use native.Mathlib.Omega.{arith}
-use borrow.Author.Rules.{rules}
 use Rattle.picked_rows.proofs.Difference.{given_works}
 use Rattle.best.proofs.Words.{found_word}
 use Rattle.best.proofs.write.write_word.Goals as goal
@@ -17,7 +16,9 @@ picked_row-requires-2 c =
 
 pub add_scaled-requires-2 : goal.add_scaled-requires-2
 add_scaled-requires-2 c =
-    let (prepared, found, long, out-long) = c.requires.prepared in record { tables = c.requires.tables; h_in_bounds = omega (
+    let (prepared, found, long, out-long) = c.requires.prepared in record {
+      tables = c.requires.tables;
+      h_in_bounds = omega (
         arith,
         long,
         out-long,
@@ -25,7 +26,8 @@ add_scaled-requires-2 c =
         c.picked_row.auto.out,
         c.add_scaled.auto.f,
         c.picked_row-2.auto.out,
-      ) }
+      );
+    }
 
 pub returns : goal.returns
 returns c =

@@ -3,7 +3,7 @@ use mathlib.Core.Path.{◌≡◌, sym, ◌∙◌, ap}
 use native.Mathlib.Omega.{arith}
 use Prim.Native.Nat.{◌≤◌}
 use lib.ListN.{length}
-use borrow.Author.Tests.{eq-eqb, ne_eqb, not-true, not-false}
+use borrow.Author.Tests.{eq-eqb, ne_eqb}
 use Rattle.basics.specs.Lists.{all}
 use Rattle.basics.proofs.Outcomes.{pass, refuse, accept}
 use Rattle.codewords.specs.Code.{code_of}
@@ -11,7 +11,6 @@ use Rattle.codewords.specs.Codewords.{symbols}
 use Rattle.codewords.proofs.Accepted.{accepted_done}
 use Rattle.code.specs.Lists.{is_below}
 use Rattle.blocks.proofs.Words.{plain_word}
-use borrow.Author.Rules.{rules}
 use Rattle.blocks.proofs.plain.plain_tested.Goals as goal
 
 pub returns-then-coefficients-code : goal.returns-then-coefficients-code

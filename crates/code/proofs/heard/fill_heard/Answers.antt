@@ -1,4 +1,4 @@
-use Prim.Native.Nat.{ℕ, ◌+◌, ◌*◌, ◌-◌, ◌^◌, ◌≤◌, ◌<◌}
+use Prim.Native.Nat.{ℕ, ◌+◌, ◌*◌, ◌^◌, ◌≤◌, ◌<◌}
 use mathlib.Core.Path.{◌≡◌, subst}
 use mathlib.Core.List.{List}
 use native.Mathlib.Omega.{arith}
@@ -8,7 +8,6 @@ use Rattle.basics.specs.SetBits.{Bytes}
 use Rattle.basics.proofs.Loops.{Appended, appended_none}
 use Rattle.code.specs.Heard.{heard_places}
 use Rattle.code.proofs.Words.{room_more, places_appended}
-use borrow.Author.Rules.{rules}
 use Rattle.code.proofs.heard.fill_heard.Goals as goal
 
 pub loop-i-init : goal.loop-i-init
@@ -44,11 +43,10 @@ room_2 c =
     room_more (mask_2 c) (bytes_2 c) c.loop-i.i c.word.ensures (fits_2 c) (length c.args.out.now) (omega (arith, c.loop-i-test.true)) c.requires.0 c.requires.1 c.loop-i.invariant.1.count
 
 pub loop-i-preserved : goal.loop-i-preserved
-loop-i-preserved c =
-    (
-      omega arith,
-      places_appended (mask_2 c) (bytes_2 c) c.loop-i.i c.word.ensures (fits_2 c) (room_2 c) c.list_set-count.ensures.0 c.list_set-count.ensures.1 c.loop-i.invariant.1,
-    )
+loop-i-preserved c = (
+  omega arith,
+  places_appended (mask_2 c) (bytes_2 c) c.loop-i.i c.word.ensures (fits_2 c) (room_2 c) c.list_set-count.ensures.0 c.list_set-count.ensures.1 c.loop-i.invariant.1,
+)
 
 pub shape_of-out : goal.shape_of-out
 shape_of-out c = c.loop-i.invariant.1.size

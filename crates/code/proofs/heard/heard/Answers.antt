@@ -1,11 +1,9 @@
 -- The field number, the tables, the code test by them, and then the operation of a code that passed it.
 use mathlib.Core.Path.{sym, ◌∙◌}
-use borrow.Author.Tests.{not-true}
 use Rattle.basics.proofs.Outcomes.{refuse}
 use Rattle.field.specs.Galois.{IsField}
 use Rattle.field.specs.Tables.{Tables}
 use Rattle.code.proofs.Tested.{field_number, points_most, go_on, stop}
-use borrow.Author.Rules.{rules}
 use Rattle.code.proofs.heard.heard.Goals as goal
 
 pub returns-then-not-is_field : goal.returns-then-not-is_field

@@ -3,14 +3,13 @@ use Prim.Native.Nat.{◌≤◌}
 use mathlib.Core.Path.{◌≡◌, sym, ◌∙◌, ap}
 use mathlib.Core.Bool.{true}
 use native.Mathlib.Omega.{arith}
-use borrow.Author.Tests.{eq-eqb, ne_eqb, not-true, not-false}
+use borrow.Author.Tests.{eq-eqb, ne_eqb}
 use lib.ListN.{length}
 use Rattle.basics.specs.Lists.{written}
 use Rattle.basics.proofs.Outcomes.{pass, refuse, count}
 use Rattle.code.specs.Heard.{heard_places, none_past}
 use Rattle.code.specs.Words.{set_places}
 use Rattle.code.proofs.Words.{set_places_few, set_places_lem}
-use borrow.Author.Rules.{rules}
 use Rattle.code.proofs.heard.heard_tested.Goals as goal
 
 pub returns-then-mask-ne40 : goal.returns-then-mask-ne40

@@ -1,4 +1,4 @@
-use Prim.Native.Nat.{◌+◌, ◌*◌, ◌-◌, ◌/◌, ◌%◌, ◌^◌, ◌≤◌, ◌<◌}
+use Prim.Native.Nat.{◌+◌, ◌*◌, ◌-◌, ◌/◌, ◌%◌, ◌^◌}
 use mathlib.Core.Path.{◌≡◌, sym, ◌∙◌, subst}
 use mathlib.Core.Bool.{true}
 use native.Mathlib.Nat.{add-zero}
@@ -7,7 +7,6 @@ use borrow.Author.Tests.{eq-eqb, ne_eqb}
 use lib.Dec.{eqb}
 use Rattle.code.specs.Heard.{heard_at}
 use Rattle.code.proofs.Words.{silent, silent_none, silent_more, not_silent}
-use borrow.Author.Rules.{rules}
 use Rattle.code.proofs.heard.none_past.Goals as goal
 
 pub loop-w-init : goal.loop-w-init
@@ -16,8 +15,8 @@ loop-w-init c =
 
 -- whether no place past n is heard up to the end of the word that was read
 turn : (c : goal.Then-word-from-ne0) →
- silent (heard_at c.args.mask.now) c.args.n (64 * (c.loop-w.w + 1) - c.args.n)
- ≡ eqb (c.word.result / 2 ^ c.loop-w.from) 0
+    silent (heard_at c.args.mask.now) c.args.n (64 * (c.loop-w.w + 1) - c.args.n)
+    ≡ eqb (c.word.result / 2 ^ c.loop-w.from) 0
 turn c =
     silent_more c.args.mask.now (λ i. (c.type_inv.mask i).fits) c.loop-w.w c.args.n c.loop-w.from c.loop-w.invariant.1 (omega arith)
     (omega (arith, c.word.ensures))
@@ -29,8 +28,8 @@ returns-then-word-from-ne0 c =
 
 -- whether no place past n is heard up to the end of the word that was read
 turn_2 : (c : goal.Else-word-from-ne0) →
- silent (heard_at c.args.mask.now) c.args.n (64 * (c.loop-w.w + 1) - c.args.n)
- ≡ eqb (c.word.result / 2 ^ c.loop-w.from) 0
+    silent (heard_at c.args.mask.now) c.args.n (64 * (c.loop-w.w + 1) - c.args.n)
+    ≡ eqb (c.word.result / 2 ^ c.loop-w.from) 0
 turn_2 c =
     silent_more c.args.mask.now (λ i. (c.type_inv.mask i).fits) c.loop-w.w c.args.n c.loop-w.from c.loop-w.invariant.1 (omega arith)
     (omega (arith, c.word.ensures))

@@ -1,14 +1,9 @@
 -- The loop's invariant: no place past n is heard up to bit `from` of word w.
-use Prim.Native.Nat.{◌+◌, ◌*◌, ◌-◌, ◌/◌, ◌%◌, ◌^◌, ◌≤◌, ◌<◌}
-use mathlib.Core.Path.{◌≡◌, sym, ◌∙◌, subst}
+use Prim.Native.Nat.{◌+◌, ◌*◌, ◌-◌, ◌≤◌, ◌<◌}
+use mathlib.Core.Path.{◌≡◌}
 use mathlib.Core.Bool.{true}
-use native.Mathlib.Nat.{add-zero}
-use native.Mathlib.Omega.{arith}
-use borrow.Author.Tests.{eq-eqb, ne_eqb}
-use lib.Dec.{eqb}
 use Rattle.code.specs.Heard.{heard_at}
-use Rattle.code.proofs.Words.{silent, silent_none, silent_more, not_silent}
-use borrow.Author.Rules.{rules}
+use Rattle.code.proofs.Words.{silent}
 use Rattle.code.proofs.heard.none_past.Given as goal
 
 abbrev pub invariant-loop-w : goal.invariant-loop-w

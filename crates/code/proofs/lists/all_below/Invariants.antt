@@ -1,14 +1,10 @@
 -- The loop's invariant: the flag is the test of the symbols so far.
 use Prim.Native.Nat.{◌≤◌, ◌-◌}
-use mathlib.Core.Path.{◌≡◌, refl, ◌∙◌, ap₂}
-use mathlib.Core.Bool.{◌&&◌}
-use native.Mathlib.Omega.{arith}
-use borrow.Author.Rules.{rules}
-use lib.Dec.{ltb}
+use mathlib.Core.Path.{◌≡◌}
 use lib.ListN.{length}
 use Rattle.basics.specs.Lists.{all, table}
 use Rattle.code.specs.Lists.{is_below}
-use Rattle.code.proofs.Marking.{element, all_next, all_ends}
+use Rattle.code.proofs.Marking.{element}
 use Rattle.code.proofs.lists.all_below.Given as goal
 
 abbrev pub invariant-loop-i : goal.invariant-loop-i

@@ -1,11 +1,7 @@
-use Prim.Native.Nat.{◌≤◌, ◌-◌}
-use mathlib.Core.Path.{◌≡◌, refl, ◌∙◌, ap₂}
+use mathlib.Core.Path.{refl, ◌∙◌, ap₂}
 use mathlib.Core.Bool.{◌&&◌}
 use native.Mathlib.Omega.{arith}
-use borrow.Author.Rules.{rules}
 use lib.Dec.{leb}
-use lib.ListN.{length}
-use Rattle.basics.specs.Lists.{all, table}
 use Rattle.code.specs.Lists.{is_place}
 use Rattle.code.proofs.Marking.{element, all_next, all_ends}
 use Rattle.code.proofs.lists.all_places.Goals as goal

@@ -1,14 +1,13 @@
-use Prim.Native.Nat.{ℕ, ◌≤◌, ◌<◌, ◌-◌}
+use Prim.Native.Nat.{ℕ, ◌<◌}
 use mathlib.Core.Path.{◌≡◌, refl, ◌∙◌, ap}
 use native.Mathlib.Omega.{arith}
-use borrow.Author.Rules.{rules}
 use borrow.Author.Tests.{ltb-true}
 use lib.Dec.{eqb}
 use lib.ListN.{length, length-set}
 use Rattle.basics.specs.Lists.{different, table}
 use Rattle.basics.proofs.Lists.{all_get, table_get}
 use Rattle.code.specs.Lists.{is_below}
-use Rattle.code.proofs.Marking.{element, Marked, marked_none, marked_next}
+use Rattle.code.proofs.Marking.{element, marked_none, marked_next}
 use Rattle.code.proofs.lists.unmarked.Goals as goal
 
 pub loop-i-init : goal.loop-i-init
@@ -34,10 +33,10 @@ bounds-seen-s-in-loop-i c = inside_2 c
 
 pub loop-i-preserved : goal.loop-i-preserved
 loop-i-preserved c = (
-      omega arith,
-      simp length-set c.loop-i.invariant.1,
-      rw c.wide-s.ensures (marked_next (element c.args.list.now) _ c.loop-i.i c.loop-i.invariant.2 (below_2 c (omega arith))),
-    )
+  omega arith,
+  simp length-set c.loop-i.invariant.1,
+  rw c.wide-s.ensures (marked_next (element c.args.list.now) _ c.loop-i.i c.loop-i.invariant.2 (below_2 c (omega arith))),
+)
 
 pub shape_of-seen : goal.shape_of-seen
 shape_of-seen c = c.loop-i.invariant.1

@@ -1,15 +1,8 @@
 -- The loop's invariant: the numbers met so far have marks, no others do, and the flag says that none of them stands twice.
-use Prim.Native.Nat.{ℕ, ◌≤◌, ◌<◌, ◌-◌}
-use mathlib.Core.Path.{◌≡◌, refl, ◌∙◌, ap}
-use native.Mathlib.Omega.{arith}
-use borrow.Author.Rules.{rules}
-use borrow.Author.Tests.{ltb-true}
-use lib.Dec.{eqb}
-use lib.ListN.{length, length-set}
-use Rattle.basics.specs.Lists.{different, table}
-use Rattle.basics.proofs.Lists.{all_get, table_get}
-use Rattle.code.specs.Lists.{is_below}
-use Rattle.code.proofs.Marking.{element, Marked, marked_none, marked_next}
+use Prim.Native.Nat.{◌≤◌, ◌-◌}
+use mathlib.Core.Path.{◌≡◌}
+use lib.ListN.{length}
+use Rattle.code.proofs.Marking.{element, Marked}
 use Rattle.code.proofs.lists.unmarked.Given as goal
 
 abbrev pub invariant-loop-i : goal.invariant-loop-i

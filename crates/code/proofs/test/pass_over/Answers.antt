@@ -1,17 +1,16 @@
-use Prim.Native.Nat.{ℕ, ◌≤◌, ◌<◌, ◌-◌}
+use Prim.Native.Nat.{ℕ, ◌<◌}
 use mathlib.Core.Path.{◌≡◌, refl, sym, ◌∙◌, ap, ap₂}
 use mathlib.Core.Bool.{◌&&◌}
 use native.Mathlib.Omega.{arith}
-use borrow.Author.Rules.{rules}
 use lib.Dec.{eqb, ltb}
 use lib.ListN.{length, length-set}
 use Rattle.basics.specs.Lists.{all, different, table}
-use Rattle.field.specs.Galois.{size, galois}
+use Rattle.field.specs.Galois.{galois}
 use Rattle.elliptic.specs.Curve.{in_field, on_curve}
 use Rattle.code.specs.Points.{is_point}
 use Rattle.code.specs.Slots.{listed, slot_at}
 use Rattle.code.proofs.Bounds.{bits_none, bits_next, all_both}
-use Rattle.code.proofs.Marking.{Marked, marked_none, marked_next, all_next}
+use Rattle.code.proofs.Marking.{marked_none, marked_next, all_next}
 use Rattle.code.proofs.Repeats.{points_table}
 use Rattle.code.proofs.test.pass_over.Goals as goal
 

@@ -1,20 +1,14 @@
 -- The loop's invariant: the bits are below q exactly if all coordinates so far are, the first flag says that these points lie on the curve, and the second that no
 -- slot of theirs was met twice.
-use Prim.Native.Nat.{ℕ, ◌≤◌, ◌<◌, ◌-◌}
-use mathlib.Core.Path.{◌≡◌, refl, sym, ◌∙◌, ap, ap₂}
-use mathlib.Core.Bool.{◌&&◌}
-use native.Mathlib.Omega.{arith}
-use borrow.Author.Rules.{rules}
-use lib.Dec.{eqb, ltb}
-use lib.ListN.{length, length-set}
-use Rattle.basics.specs.Lists.{all, different, table}
+use Prim.Native.Nat.{◌≤◌, ◌-◌}
+use mathlib.Core.Path.{◌≡◌}
+use lib.Dec.{ltb}
+use lib.ListN.{length}
+use Rattle.basics.specs.Lists.{all, table}
 use Rattle.field.specs.Galois.{size, galois}
 use Rattle.elliptic.specs.Curve.{in_field, on_curve}
-use Rattle.code.specs.Points.{is_point}
 use Rattle.code.specs.Slots.{listed, slot_at}
-use Rattle.code.proofs.Bounds.{bits_none, bits_next, all_both}
-use Rattle.code.proofs.Marking.{Marked, marked_none, marked_next, all_next}
-use Rattle.code.proofs.Repeats.{points_table}
+use Rattle.code.proofs.Marking.{Marked}
 use Rattle.code.proofs.test.pass_over.Given as goal
 
 abbrev pub invariant-loop-i : goal.invariant-loop-i

@@ -1,11 +1,9 @@
 -- The field number and the tables, and then the rest.
 use mathlib.Core.Path.{sym, ◌∙◌}
-use borrow.Author.Tests.{not-true}
 use Rattle.field.specs.Galois.{IsField}
 use Rattle.codewords.specs.Code.{code_answer}
 use Rattle.code.proofs.Answering.{refused_by}
 use Rattle.code.proofs.Tested.{field_number}
-use borrow.Author.Rules.{rules}
 use Rattle.code.proofs.test.test_code.Goals as goal
 
 pub returns-then-not-is_field : goal.returns-then-not-is_field

@@ -1,13 +1,11 @@
 -- The coefficients, and then the points.
 use mathlib.Core.Path.{◌≡◌, sym, ◌∙◌}
 use mathlib.Core.Bool.{true}
-use borrow.Author.Tests.{not-true, not-false}
 use Rattle.basics.specs.declared.Refusal.TheVariants.{FieldNumber, CurveCoefficient}
 use Rattle.field.proofs.Galois.{field_true}
 use Rattle.codewords.specs.Code.{code_of, coefficients_below, code_answer}
 use Rattle.code.specs.Points.{points_answer}
 use Rattle.code.proofs.Answering.{refused_by, passed_by}
-use borrow.Author.Rules.{rules}
 use Rattle.code.proofs.test.test_code_with.Goals as goal
 
 pub returns-then-not-coefficients_below : goal.returns-then-not-coefficients_below

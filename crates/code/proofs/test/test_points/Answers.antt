@@ -13,7 +13,6 @@ use Rattle.codewords.specs.Code.{Code, code_of, smooth, right_count, all_on_curv
 use Rattle.code.specs.Points.{points_answer}
 use Rattle.code.proofs.Answering.{refused_by, passed_by}
 use Rattle.code.proofs.Repeats.{slots_differ}
-use borrow.Author.Rules.{rules}
 use Rattle.code.proofs.test.test_points.Goals as goal
 
 pub returns-then-is_singular : goal.returns-then-is_singular
@@ -60,7 +59,7 @@ count-ok_2 c = sym c.right_count.ensures ∙ c.if-not-right_count.false
 
 -- past the tests 3 and 4, and past all of the points
 past-count : (c : goal.Then-not-found) (o : Outcome (Unit {0})) {r : Answer} → r ≡ answer o
- → r ≡ answer (check (smooth (code_3 c)) Singular (check (right_count (code_3 c)) PointCount o))
+    → r ≡ answer (check (smooth (code_3 c)) Singular (check (right_count (code_3 c)) PointCount o))
 past-count c o h = passed_by _ Singular _ (smooth-ok_2 c) (passed_by _ PointCount o (count-ok_2 c) h)
 
 pub returns-then-not-found : goal.returns-then-not-found
@@ -81,7 +80,7 @@ count-ok_3 c = sym c.right_count.ensures ∙ c.if-not-right_count.false
 
 -- past the tests 3 and 4, and past all of the points
 past-count_2 : (c : goal.Then-not-found-2) (o : Outcome (Unit {0})) {r : Answer} → r ≡ answer o
- → r ≡ answer (check (smooth (code_4 c)) Singular (check (right_count (code_4 c)) PointCount o))
+    → r ≡ answer (check (smooth (code_4 c)) Singular (check (right_count (code_4 c)) PointCount o))
 past-count_2 c o h = passed_by _ Singular _ (smooth-ok_3 c) (passed_by _ PointCount o (count-ok_3 c) h)
 
 on-ok : (c : goal.Then-not-found-2) → all_on_curve (code_4 c) ≡ true
@@ -117,7 +116,7 @@ count-ok_4 c = sym c.right_count.ensures ∙ c.if-not-right_count.false
 
 -- past the tests 3 and 4, and past all of the points
 past-count_3 : (c : goal.Then-not-right_dimension) (o : Outcome (Unit {0})) {r : Answer} → r ≡ answer o
- → r ≡ answer (check (smooth (code_5 c)) Singular (check (right_count (code_5 c)) PointCount o))
+    → r ≡ answer (check (smooth (code_5 c)) Singular (check (right_count (code_5 c)) PointCount o))
 past-count_3 c o h = passed_by _ Singular _ (smooth-ok_4 c) (passed_by _ PointCount o (count-ok_4 c) h)
 
 on-ok_2 : (c : goal.Then-not-right_dimension) → all_on_curve (code_5 c) ≡ true
@@ -138,8 +137,8 @@ different-ok : (c : goal.Then-not-right_dimension) → all_different (code_5 c) 
 different-ok c = sym (apart-is_2 c) ∙ (not-false _ c.if-not-found-2.false)
 
 past_points : (c : goal.Then-not-right_dimension) (o : Outcome (Unit {0})) {r : Answer} → r ≡ answer o
- → let d = code_5 c in
- r ≡ answer (check (smooth d) Singular (check (right_count d) PointCount (check (all_on_curve d) OffCurve (check (all_different d) RepeatedPoint o))))
+    → let d = code_5 c in
+    r ≡ answer (check (smooth d) Singular (check (right_count d) PointCount (check (all_on_curve d) OffCurve (check (all_different d) RepeatedPoint o))))
 past_points c o h = past-count_3 c _ (passed_by _ OffCurve _ (on-ok_2 c) (passed_by _ RepeatedPoint o (different-ok c) h))
 
 pub returns-then-not-right_dimension : goal.returns-then-not-right_dimension
@@ -160,7 +159,7 @@ count-ok_5 c = sym c.right_count.ensures ∙ c.if-not-right_count.false
 
 -- past the tests 3 and 4, and past all of the points
 past-count_4 : (c : goal.Else-not-right_dimension) (o : Outcome (Unit {0})) {r : Answer} → r ≡ answer o
- → r ≡ answer (check (smooth (code_6 c)) Singular (check (right_count (code_6 c)) PointCount o))
+    → r ≡ answer (check (smooth (code_6 c)) Singular (check (right_count (code_6 c)) PointCount o))
 past-count_4 c o h = passed_by _ Singular _ (smooth-ok_5 c) (passed_by _ PointCount o (count-ok_5 c) h)
 
 on-ok_3 : (c : goal.Else-not-right_dimension) → all_on_curve (code_6 c) ≡ true
@@ -181,8 +180,8 @@ different-ok_2 : (c : goal.Else-not-right_dimension) → all_different (code_6 c
 different-ok_2 c = sym (apart-is_3 c) ∙ (not-false _ c.if-not-found-2.false)
 
 past_points_2 : (c : goal.Else-not-right_dimension) (o : Outcome (Unit {0})) {r : Answer} → r ≡ answer o
- → let d = code_6 c in
- r ≡ answer (check (smooth d) Singular (check (right_count d) PointCount (check (all_on_curve d) OffCurve (check (all_different d) RepeatedPoint o))))
+    → let d = code_6 c in
+    r ≡ answer (check (smooth d) Singular (check (right_count d) PointCount (check (all_on_curve d) OffCurve (check (all_different d) RepeatedPoint o))))
 past_points_2 c o h = past-count_4 c _ (passed_by _ OffCurve _ (on-ok_3 c) (passed_by _ RepeatedPoint o (different-ok_2 c) h))
 
 pub returns : goal.returns

@@ -1,13 +1,10 @@
 -- The places are tested, and then Pick has different places.
 use mathlib.Core.Path.{◌≡◌, sym, ◌∙◌}
-use mathlib.Core.Logic.{⊎_elim}
-use native.Mathlib.Omega.{arith}
 use lib.ListN.{length}
 use Rattle.basics.specs.declared.Answer.TheVariants.{Done}
 use Rattle.codewords.proofs.Accepted.{accepted_done}
 use Rattle.solving.specs.Tests.{places_answer}
 use Rattle.solving.proofs.Chains.{places_go, places_stop, are_placed}
-use borrow.Author.Rules.{rules}
 use Rattle.coder.proofs.pick.pick_placed.Goals as goal
 
 pub test_places-tested-requires : goal.test_places-tested-requires

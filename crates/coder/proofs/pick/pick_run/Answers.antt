@@ -9,7 +9,6 @@ use borrow.Author.Tests.{le-leb, lt-leb}
 use Rattle.basics.proofs.Outcomes.{pass, refuse, accept_pair}
 use Rattle.solving.proofs.Link.{accepted, no_symbols}
 use Rattle.solving.proofs.Free.{not_free, is_free, index_lt, picked}
-use borrow.Author.Rules.{rules}
 use Rattle.coder.proofs.pick.pick_run.Goals as goal
 
 pub returns-then-ranked-p : goal.returns-then-ranked-p

@@ -2,7 +2,6 @@
 use borrow.Author.Tests.{eq-eqb, ne_eqb, le-leb, lt-leb}
 use Rattle.basics.proofs.Outcomes.{pass, refuse}
 use Rattle.solving.specs.Tests.{room}
-use borrow.Author.Rules.{rules}
 use Rattle.coder.proofs.pick.pick_tested.Goals as goal
 
 pub returns-then-xs-ranked : goal.returns-then-xs-ranked

@@ -1,13 +1,11 @@
 -- The field number, the tables, the code test by them, and then the operation of a code that passed it.
 use mathlib.Core.Path.{◌≡◌, sym, ◌∙◌}
-use borrow.Author.Tests.{not-true}
 use Rattle.basics.specs.declared.Answer.TheVariants.{Done}
 use Rattle.basics.proofs.Outcomes.{refuse}
 use Rattle.field.specs.Galois.{IsField}
 use Rattle.field.specs.Tables.{Tables}
 use Rattle.codewords.specs.Code.{code_of, code_answer}
 use Rattle.code.proofs.Tested.{field_number, go_on, stop}
-use borrow.Author.Rules.{rules}
 use Rattle.coder.proofs.rebuild.rebuild.Goals as goal
 
 pub returns-then-not-is_field : goal.returns-then-not-is_field

@@ -1,8 +1,6 @@
 -- The tests up to number 12, and then what was solved for, if it agrees.
 use mathlib.Core.Path.{◌≡◌, sym, ◌∙◌}
-use mathlib.Core.Logic.{⊎_elim}
 use native.Mathlib.Omega.{arith}
-use borrow.Author.Tests.{not-true, not-false}
 use Rattle.basics.specs.declared.Answer.TheVariants.{Done}
 use Rattle.basics.proofs.Outcomes.{pass, refuse, accept_pair}
 use Rattle.codewords.specs.Code.{code_of}
@@ -12,7 +10,6 @@ use Rattle.solving.proofs.Chains.{posed_go, posed_stop, solvable, enough}
 use Rattle.solving.proofs.Link.{all_in_lem}
 use Rattle.basics.proofs.Lists.{copied}
 use Rattle.coder.proofs.Results.{agreed_by, rebuilt}
-use borrow.Author.Rules.{rules}
 use Rattle.coder.proofs.rebuild.rebuild_run.Goals as goal
 
 pub prepare_word-prepared-requires : goal.prepare_word-prepared-requires

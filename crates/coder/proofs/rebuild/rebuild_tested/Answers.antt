@@ -5,7 +5,6 @@ use borrow.Author.Tests.{eq-eqb, ne_eqb, le-leb, lt-leb}
 use Rattle.basics.proofs.Outcomes.{pass, refuse}
 use Rattle.codewords.proofs.Accepted.{accepted_done}
 use Rattle.solving.specs.Tests.{room}
-use borrow.Author.Rules.{rules}
 use Rattle.coder.proofs.rebuild.rebuild_tested.Goals as goal
 
 pub returns-then-xs-places : goal.returns-then-xs-places

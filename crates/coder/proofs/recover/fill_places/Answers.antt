@@ -1,11 +1,9 @@
 use mathlib.Core.Path.{◌≡◌, refl, ◌∙◌, ap}
-use Prim.Native.Nat.{◌≤◌, ◌-◌}
 use native.Mathlib.Omega.{arith}
 use lib.ListN.{length, length-set}
 use Rattle.basics.specs.Lists.{table}
-use Rattle.basics.proofs.Loops.{filled, filled_turn, filled_all}
+use Rattle.basics.proofs.Loops.{filled_turn, filled_all}
 use Rattle.coder.specs.Stages.{place_at}
-use borrow.Author.Rules.{rules}
 use Rattle.coder.proofs.recover.fill_places.Goals as goal
 
 pub loop-i-init : goal.loop-i-init

@@ -1,12 +1,9 @@
 -- The loop's invariant: the first i places stand there.
-use mathlib.Core.Path.{◌≡◌, refl, ◌∙◌, ap}
+use mathlib.Core.Path.{◌≡◌}
 use Prim.Native.Nat.{◌≤◌, ◌-◌}
-use native.Mathlib.Omega.{arith}
-use lib.ListN.{length, length-set}
-use Rattle.basics.specs.Lists.{table}
-use Rattle.basics.proofs.Loops.{filled, filled_turn, filled_all}
+use lib.ListN.{length}
+use Rattle.basics.proofs.Loops.{filled}
 use Rattle.coder.specs.Stages.{place_at}
-use borrow.Author.Rules.{rules}
 use Rattle.coder.proofs.recover.fill_places.Given as goal
 
 abbrev pub invariant-loop-i : goal.invariant-loop-i

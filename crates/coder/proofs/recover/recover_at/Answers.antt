@@ -9,7 +9,6 @@ use Rattle.basics.specs.Lists.{table}
 use Rattle.basics.proofs.Lists.{length_table, front}
 use Rattle.codewords.proofs.Accepted.{accepted_done}
 use Rattle.coder.specs.Stages.{place_at}
-use borrow.Author.Rules.{rules}
 use Rattle.coder.proofs.recover.recover_at.Goals as goal
 
 pub slice_bounds-fill_places-end : goal.slice_bounds-fill_places-end
@@ -29,9 +28,9 @@ slice_bounds-recover_run-end c = omega (arith, c.requires.in_bounds.0, (accepted
 
 -- what stands in the lent part
 are_places : (c : goal.After-slice_known-5-1)
- →
- let n = length c.args.xs.now in
- take n (c.fill_places.new.places ++ drop n c.args.places.now) ≡ table place_at n
+    →
+    let n = length c.args.xs.now in
+    take n (c.fill_places.new.places ++ drop n c.args.places.now) ≡ table place_at n
 are_places c =
     let n = length c.args.xs.now in
     let h : n ≤ length c.args.places.now = omega (arith, c.requires.in_bounds.0, (accepted_done _ c.requires.ys_value).n_most) in
@@ -42,9 +41,9 @@ slice_bounds-recover_run-end-2 c = rw (are_places c) (sym (length_table _ _))
 
 -- what stands in the lent part
 are_places_2 : (c : goal.After-recover_run-arg-3-1)
- →
- let n = length c.args.xs.now in
- take n (c.fill_places.new.places ++ drop n c.args.places.now) ≡ table place_at n
+    →
+    let n = length c.args.xs.now in
+    take n (c.fill_places.new.places ++ drop n c.args.places.now) ≡ table place_at n
 are_places_2 c =
     let n = length c.args.xs.now in
     let h : n ≤ length c.args.places.now = omega (arith, c.requires.in_bounds.0, (accepted_done _ c.requires.ys_value).n_most) in

@@ -1,9 +1,7 @@
 -- All places are used, and then what was solved for, if it agrees.
 use mathlib.Core.Path.{◌≡◌, sym, ◌∙◌}
-use mathlib.Core.Logic.{⊎_elim}
 use lib.ListN.{length}
 use native.Mathlib.Omega.{arith}
-use borrow.Author.Tests.{not-true, not-false}
 use Rattle.basics.specs.declared.Answer.TheVariants.{Done}
 use Rattle.basics.specs.declared.Refusal.TheVariants.{NoCodeword}
 use Rattle.basics.specs.Lists.{Holds}
@@ -16,7 +14,6 @@ use Rattle.solving.specs.Tests.{cleared, check_posed, posed_answer}
 use Rattle.coder.specs.Stages.{recover_run}
 use Rattle.solving.proofs.Chains.{posed_go, posed_stop, solvable}
 use Rattle.coder.proofs.Every.{every_length, every_posed, every_agrees, every_recovered}
-use borrow.Author.Rules.{rules}
 use Rattle.coder.proofs.recover.recover_run.Goals as goal
 
 -- there is a symbol for every place
@@ -43,8 +40,8 @@ agrees_all-requires c =
 
 -- the outcome with the tests of places, which pass
 outcome : (c : goal.Then-not-agrees_all) → let code = code_of c.args.p c.args.xs.now c.args.ys.now in
- recover_run code c.args.symbols.now c.args.work.now
- ≡ check_posed code c.args.places.now c.args.symbols.now (check (codeword code c.args.symbols.now) NoCodeword (accepted (recovered code c.args.symbols.now, cleared c.args.work.now)))
+    recover_run code c.args.symbols.now c.args.work.now
+    ≡ check_posed code c.args.places.now c.args.symbols.now (check (codeword code c.args.symbols.now) NoCodeword (accepted (recovered code c.args.symbols.now, cleared c.args.work.now)))
 outcome c = every_posed _ c.requires.ys_value _ c.requires.places_value.0 _ _
 
 -- the tests were passed, and the function stands in f
@@ -95,8 +92,8 @@ says_2 c =
 
 -- the outcome with the tests of places, which pass
 outcome_2 : (c : goal.After-slice_known-in-Done-2-1) → let code = code_of c.args.p c.args.xs.now c.args.ys.now in
- recover_run code c.args.symbols.now c.args.work.now
- ≡ check_posed code c.args.places.now c.args.symbols.now (check (codeword code c.args.symbols.now) NoCodeword (accepted (recovered code c.args.symbols.now, cleared c.args.work.now)))
+    recover_run code c.args.symbols.now c.args.work.now
+    ≡ check_posed code c.args.places.now c.args.symbols.now (check (codeword code c.args.symbols.now) NoCodeword (accepted (recovered code c.args.symbols.now, cleared c.args.work.now)))
 outcome_2 c = every_posed _ c.requires.ys_value _ c.requires.places_value.0 _ _
 
 pub returns-in-Done : goal.returns-in-Done
@@ -109,8 +106,8 @@ returns-in-Done c =
 
 -- the outcome with the tests of places, which pass
 outcome_3 : (c : goal.In_default) → let code = code_of c.args.p c.args.xs.now c.args.ys.now in
- recover_run code c.args.symbols.now c.args.work.now
- ≡ check_posed code c.args.places.now c.args.symbols.now (check (codeword code c.args.symbols.now) NoCodeword (accepted (recovered code c.args.symbols.now, cleared c.args.work.now)))
+    recover_run code c.args.symbols.now c.args.work.now
+    ≡ check_posed code c.args.places.now c.args.symbols.now (check (codeword code c.args.symbols.now) NoCodeword (accepted (recovered code c.args.symbols.now, cleared c.args.work.now)))
 outcome_3 c = every_posed _ c.requires.ys_value _ c.requires.places_value.0 _ _
 
 pub returns : goal.returns

@@ -3,7 +3,6 @@ use native.Mathlib.Omega.{arith}
 use borrow.Author.Tests.{eq-eqb, ne_eqb, le-leb, lt-leb}
 use Rattle.basics.proofs.Outcomes.{pass, refuse}
 use Rattle.solving.specs.Tests.{room}
-use borrow.Author.Rules.{rules}
 use Rattle.coder.proofs.recover.recover_tested.Goals as goal
 
 pub returns-then-symbols-xs : goal.returns-then-symbols-xs

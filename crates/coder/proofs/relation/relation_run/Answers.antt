@@ -5,7 +5,6 @@ use mathlib.Core.Bool.{cond}
 use mathlib.Core.List.{[]}
 use native.Mathlib.Omega.{arith}
 use lib.ListN.{take}
-use borrow.Author.Tests.{not-true, not-false}
 use Rattle.basics.proofs.Lists.{holds_length}
 use Rattle.basics.proofs.Outcomes.{pass, refuse, accept_pair}
 use Rattle.elliptic.specs.Pair.{padded}
@@ -14,7 +13,6 @@ use Rattle.codewords.specs.Codewords.{dependent}
 use Rattle.engine.specs.Arrays.{Room}
 use Rattle.engine.proofs.States.{room}
 use Rattle.solving.proofs.Link.{accepted, no_symbols, within, may_run, small, sizes, zero_last, is_dependent, relation_low}
-use borrow.Author.Rules.{rules}
 use Rattle.coder.proofs.relation.relation_run.Goals as goal
 
 pub overflow_sub-last : goal.overflow_sub-last

@@ -1,6 +1,5 @@
 -- The tests up to number 12, and then what was solved for.
 use mathlib.Core.Path.{◌≡◌, sym, ◌∙◌}
-use mathlib.Core.Logic.{⊎_elim}
 use native.Mathlib.Omega.{arith}
 use Rattle.basics.specs.declared.Answer.TheVariants.{Done}
 use Rattle.basics.specs.Lists.{Holds}
@@ -10,7 +9,6 @@ use Rattle.codewords.specs.Computed.{solution}
 use Rattle.solving.specs.Tests.{posed_answer}
 use Rattle.solving.proofs.Chains.{posed_go, posed_stop, enough}
 use Rattle.coder.proofs.Results.{the_function}
-use borrow.Author.Rules.{rules}
 use Rattle.coder.proofs.systematic_function.systematic_function_run.Goals as goal
 
 pub prepare-prepared-requires : goal.prepare-prepared-requires

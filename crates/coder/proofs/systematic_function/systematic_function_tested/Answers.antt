@@ -4,7 +4,6 @@ use borrow.Author.Tests.{eq-eqb, ne_eqb, le-leb, lt-leb}
 use Rattle.basics.proofs.Outcomes.{pass, refuse, meets_as}
 use Rattle.solving.specs.Tests.{room}
 use Rattle.solving.proofs.Chains.{posed_as}
-use borrow.Author.Rules.{rules}
 use Rattle.coder.proofs.systematic_function.systematic_function_tested.Goals as goal
 
 pub returns-then-places-p : goal.returns-then-places-p

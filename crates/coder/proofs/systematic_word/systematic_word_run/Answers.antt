@@ -1,6 +1,5 @@
 -- The tests up to number 12, and then what was solved for.
 use mathlib.Core.Path.{◌≡◌, sym, ◌∙◌}
-use mathlib.Core.Logic.{⊎_elim}
 use native.Mathlib.Omega.{arith}
 use Rattle.basics.specs.declared.Answer.TheVariants.{Done}
 use Rattle.basics.proofs.Outcomes.{accept_pair}
@@ -11,7 +10,6 @@ use Rattle.solving.specs.Tests.{posed_answer}
 use Rattle.solving.proofs.Chains.{posed_go, posed_stop, enough}
 use Rattle.basics.proofs.Lists.{copied}
 use Rattle.coder.proofs.Results.{the_word}
-use borrow.Author.Rules.{rules}
 use Rattle.coder.proofs.systematic_word.systematic_word_run.Goals as goal
 
 pub prepare_word-prepared-requires : goal.prepare_word-prepared-requires

@@ -6,7 +6,6 @@ use Rattle.basics.proofs.Outcomes.{pass, refuse, meets_as}
 use Rattle.codewords.proofs.Accepted.{accepted_done}
 use Rattle.solving.specs.Tests.{room}
 use Rattle.solving.proofs.Chains.{posed_as}
-use borrow.Author.Rules.{rules}
 use Rattle.coder.proofs.systematic_word.systematic_word_tested.Goals as goal
 
 pub returns-then-places-p : goal.returns-then-places-p

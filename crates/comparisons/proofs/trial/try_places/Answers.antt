@@ -1,7 +1,6 @@
 -- Every part of a list of 288 is as long as its number of entries.
 use mathlib.Core.Path.{◌∙◌}
 use Rattle.trials.proofs.Parts.{part}
-use borrow.Author.Rules.{rules}
 use Rattle.comparisons.proofs.trial.try_places.Goals as goal
 
 pub slice_bounds-try_lent-end : goal.slice_bounds-try_lent-end

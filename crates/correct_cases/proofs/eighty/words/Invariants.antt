@@ -1,6 +1,5 @@
 -- The loop counts to 1,000.
 use Prim.Native.Nat.{◌-◌}
-use borrow.Author.Rules.{rules}
 use Rattle.correct_cases.proofs.eighty.words.Given as goal
 
 abbrev pub invariant-loop-i : goal.invariant-loop-i

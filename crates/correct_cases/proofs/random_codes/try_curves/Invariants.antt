@@ -1,6 +1,5 @@
 -- The loop counts the curves.
 use Prim.Native.Nat.{◌-◌}
-use borrow.Author.Rules.{rules}
 use Rattle.correct_cases.proofs.random_codes.try_curves.Given as goal
 
 abbrev pub invariant-loop-i : goal.invariant-loop-i

@@ -2,7 +2,6 @@
 use mathlib.Core.Path.{◌∙◌}
 use native.Mathlib.Omega.{arith}
 use Rattle.trials.proofs.Parts.{part}
-use borrow.Author.Rules.{rules}
 use Rattle.correct_cases.proofs.random_codes.try_drawn.Goals as goal
 
 pub slice_bounds-try_code-end : goal.slice_bounds-try_code-end

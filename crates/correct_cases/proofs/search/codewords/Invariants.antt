@@ -1,6 +1,5 @@
 -- No product is more than the most.
 use Prim.Native.Nat.{◌-◌, ◌≤◌}
-use borrow.Author.Rules.{rules}
 use Rattle.correct_cases.proofs.search.codewords.Given as goal
 
 abbrev pub invariant-loop-i : goal.invariant-loop-i

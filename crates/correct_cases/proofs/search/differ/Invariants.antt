@@ -1,7 +1,6 @@
 -- The loop goes up the list.
 use Prim.Native.Nat.{◌-◌}
 use lib.ListN.{length}
-use borrow.Author.Rules.{rules}
 use Rattle.correct_cases.proofs.search.differ.Given as goal
 
 abbrev pub invariant-loop-i : goal.invariant-loop-i

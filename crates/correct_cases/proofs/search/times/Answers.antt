@@ -2,7 +2,6 @@
 use Prim.Native.Nat.{◌%◌, ◌≤◌}
 use native.Mathlib.Nat.{mul-le-mul}
 use native.Mathlib.Omega.{arith}
-use borrow.Author.Rules.{rules}
 use Rattle.correct_cases.proofs.search.times.Goals as goal
 
 pub overflow_mul-more : goal.overflow_mul-more

@@ -1,6 +1,5 @@
 -- The loop goes over the dimensions.
 use Prim.Native.Nat.{◌-◌, ◌≤◌}
-use borrow.Author.Rules.{rules}
 use Rattle.correct_cases.proofs.small_codes.all_a.Given as goal
 
 abbrev pub invariant-loop-k : goal.invariant-loop-k

@@ -2,8 +2,6 @@
 use Prim.Native.Nat.{◌-◌}
 use mathlib.Core.Path.{◌≡◌}
 use lib.ListN.{length}
-use native.Mathlib.Omega.{arith}
-use borrow.Author.Rules.{rules}
 use Rattle.correct_cases.proofs.small_codes.all_words.Given as goal
 
 abbrev pub invariant-loop-i : goal.invariant-loop-i

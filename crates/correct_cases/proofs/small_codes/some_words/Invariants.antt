@@ -1,6 +1,5 @@
 -- The loop counts to 200.
 use Prim.Native.Nat.{◌-◌}
-use borrow.Author.Rules.{rules}
 use Rattle.correct_cases.proofs.small_codes.some_words.Given as goal
 
 abbrev pub invariant-loop-i : goal.invariant-loop-i

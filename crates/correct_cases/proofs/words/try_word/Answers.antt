@@ -1,6 +1,5 @@
 -- Every part of a list of 288 is as long as its number of entries.
 use Rattle.trials.proofs.Parts.{part}
-use borrow.Author.Rules.{rules}
 use Rattle.correct_cases.proofs.words.try_word.Goals as goal
 
 pub slice_bounds-try_lent-end : goal.slice_bounds-try_lent-end

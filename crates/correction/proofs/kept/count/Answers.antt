@@ -1,8 +1,6 @@
 use mathlib.Core.Path.{◌≡◌, ◌∙◌, ap}
-use Prim.Native.Nat.{◌-◌, ◌≤◌}
 use native.Mathlib.Omega.{arith}
 use lib.ListN.{length}
-use borrow.Author.Rules.{rules}
 use Rattle.correction.specs.Kept.{kept_before}
 use Rattle.correction.proofs.Counting.{none_kept, count_more, count_few}
 use Rattle.correction.proofs.kept.count.Goals as goal

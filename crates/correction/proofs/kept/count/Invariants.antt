@@ -1,11 +1,8 @@
 -- The loop's invariant: c kept places are among the first i places.
-use mathlib.Core.Path.{◌≡◌, ◌∙◌, ap}
+use mathlib.Core.Path.{◌≡◌}
 use Prim.Native.Nat.{◌-◌, ◌≤◌}
-use native.Mathlib.Omega.{arith}
 use lib.ListN.{length}
-use borrow.Author.Rules.{rules}
 use Rattle.correction.specs.Kept.{kept_before}
-use Rattle.correction.proofs.Counting.{none_kept, count_more, count_few}
 use Rattle.correction.proofs.kept.count.Given as goal
 
 abbrev pub invariant-loop-i : goal.invariant-loop-i

@@ -1,11 +1,7 @@
-use mathlib.Core.Path.{◌≡◌}
-use Prim.Native.Nat.{◌+◌, ◌-◌, ◌≤◌}
 use native.Mathlib.Omega.{arith}
 use lib.Bits.{bit_xor}
 use lib.Dec.{eqb}
-use lib.ListN.{length, get_or, drop}
-use borrow.Author.Rules.{rules}
-use Rattle.decoding.specs.Near.{distance}
+use lib.ListN.{get_or}
 use Rattle.correction.proofs.Counting.{distance_more, distance_last, more_le}
 use Rattle.correction.proofs.kept.distance.Goals as goal
 

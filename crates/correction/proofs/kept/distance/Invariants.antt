@@ -1,13 +1,8 @@
 -- The loop's invariant: d, and what is left, make the distance.
 use mathlib.Core.Path.{◌≡◌}
 use Prim.Native.Nat.{◌+◌, ◌-◌, ◌≤◌}
-use native.Mathlib.Omega.{arith}
-use lib.Bits.{bit_xor}
-use lib.Dec.{eqb}
-use lib.ListN.{length, get_or, drop}
-use borrow.Author.Rules.{rules}
+use lib.ListN.{length, drop}
 use Rattle.decoding.specs.Near.{distance}
-use Rattle.correction.proofs.Counting.{distance_more, distance_last, more_le}
 use Rattle.correction.proofs.kept.distance.Given as goal
 
 abbrev pub invariant-loop-i : goal.invariant-loop-i

@@ -1,6 +1,5 @@
 -- By the test.
 use borrow.Author.Tests.{eq-eqb, ne_eqb}
-use borrow.Author.Rules.{rules}
 use Rattle.correction.proofs.kept.more.Goals as goal
 
 pub returns-then-x-eq0 : goal.returns-then-x-eq0

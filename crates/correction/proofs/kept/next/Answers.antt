@@ -1,9 +1,5 @@
-use mathlib.Core.Path.{◌≡◌, refl}
-use Prim.Native.Nat.{◌-◌, ◌≤◌}
+use mathlib.Core.Path.{refl}
 use native.Mathlib.Omega.{arith}
-use lib.ListN.{length}
-use borrow.Author.Rules.{rules}
-use Rattle.correction.specs.Kept.{kept_before}
 use Rattle.correction.proofs.Counting.{skip}
 use Rattle.correction.proofs.kept.next.Goals as goal
 

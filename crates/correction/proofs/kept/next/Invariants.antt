@@ -1,11 +1,8 @@
 -- The loop's invariant: no place from j to i is kept.
-use mathlib.Core.Path.{◌≡◌, refl}
+use mathlib.Core.Path.{◌≡◌}
 use Prim.Native.Nat.{◌-◌, ◌≤◌}
-use native.Mathlib.Omega.{arith}
 use lib.ListN.{length}
-use borrow.Author.Rules.{rules}
 use Rattle.correction.specs.Kept.{kept_before}
-use Rattle.correction.proofs.Counting.{skip}
 use Rattle.correction.proofs.kept.next.Given as goal
 
 abbrev pub invariant-loop-i : goal.invariant-loop-i

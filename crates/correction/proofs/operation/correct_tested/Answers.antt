@@ -1,13 +1,12 @@
 -- Test after test of the lengths and of the symbols, and then the last one.
 use mathlib.Core.Path.{◌≡◌, sym, ◌∙◌, ap}
-use borrow.Author.Tests.{not-true, not-false, eq-eqb, ne_eqb, le-leb, lt-leb}
+use borrow.Author.Tests.{eq-eqb, ne_eqb, le-leb, lt-leb}
 use Rattle.basics.specs.Lists.{all}
 use Rattle.basics.proofs.Outcomes.{pass, refuse}
 use Rattle.code.specs.Lists.{is_below}
 use Rattle.codewords.specs.Code.{code_of}
 use Rattle.codewords.specs.Codewords.{symbols}
 use Rattle.solving.specs.Tests.{room}
-use borrow.Author.Rules.{rules}
 use Rattle.correction.proofs.operation.correct_tested.Goals as goal
 
 pub returns-then-r-xs : goal.returns-then-r-xs

@@ -4,7 +4,6 @@ use mathlib.Core.Path.{sym}
 use native.Mathlib.Omega.{arith}
 use lib.ListN.{length}
 use lib.Seq.{length-take-le}
-use borrow.Author.Rules.{rules}
 use Rattle.codewords.specs.Code.{Code, code_of}
 use Rattle.codewords.proofs.Accepted.{accepted_done}
 use Rattle.decoding.specs.Near.{radius}
@@ -24,12 +23,15 @@ code_2 c = code_of c.args.p c.args.xs.now c.args.ys.now
 
 pub locate-requires : goal.locate-requires
 locate-requires c =
-    let (size, fits, room, are_symbols) = c.requires.r_len in record { tables = c.requires.tables; laid = (
+    let (size, fits, room, are_symbols) = c.requires.r_len in record {
+      tables = c.requires.tables;
+      laid = (
         laid_for (code_2 c) c.requires.ys_value c.args.r.now are_symbols size c.layout-shape.ensures,
         seconds_below (code_2 c) c.requires.ys_value,
         symbols_below (code_2 c) c.requires.ys_value c.args.r.now are_symbols size,
         c.requires.four_long,
-      ) }
+      );
+    }
 
 -- the arrays are long enough for the values at all points
 long-a : (c : goal.After-slice_known-10-1) → length c.args.xs.now ≤ length c.locate.new.a

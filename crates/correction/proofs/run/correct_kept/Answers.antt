@@ -9,7 +9,6 @@ use Rattle.codewords.specs.Code.{code_of}
 use Rattle.decoding.specs.Near.{distance, radius}
 use Rattle.correction.specs.Kept.{kept_in}
 use Rattle.correction.proofs.Correcting.{few, decided, too_few, too_far, near, is_corrected}
-use borrow.Author.Rules.{rules}
 use Rattle.correction.proofs.run.correct_kept.Goals as goal
 
 pub count-kept-requires : goal.count-kept-requires

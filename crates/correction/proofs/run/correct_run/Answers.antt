@@ -4,7 +4,6 @@ use mathlib.Core.Path.{sym}
 use native.Mathlib.Omega.{arith}
 use lib.ListN.{length}
 use lib.Seq.{length-take-le}
-use borrow.Author.Rules.{rules}
 use Rattle.codewords.specs.Code.{code_of}
 use Rattle.codewords.proofs.Accepted.{accepted_done}
 use Rattle.correction.proofs.run.correct_run.Goals as goal

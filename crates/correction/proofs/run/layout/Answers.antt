@@ -3,7 +3,6 @@ use Prim.Native.Nat.{◌≤◌}
 use mathlib.Core.Path.{refl}
 use native.Mathlib.Omega.{arith}
 use Rattle.correction.proofs.Locating.{span_small}
-use borrow.Author.Rules.{rules}
 use Rattle.correction.proofs.run.layout.Goals as goal
 
 -- N has few coefficients

@@ -1,6 +1,5 @@
 -- By cases of whether t is 0.
 use Rattle.correction.proofs.Locating.{span_zero, span_some}
-use borrow.Author.Rules.{rules}
 use Rattle.correction.proofs.run.span_of.Goals as goal
 
 pub returns-then-t-eq0 : goal.returns-then-t-eq0

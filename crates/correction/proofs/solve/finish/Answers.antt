@@ -3,7 +3,6 @@ use mathlib.Core.Path.{◌∙◌, ap}
 use Rattle.field.specs.Galois.{galois}
 use Rattle.elliptic.specs.Pair.{add_scaled}
 use Rattle.correction.specs.Runs.{finished}
-use borrow.Author.Rules.{rules}
 use Rattle.correction.proofs.solve.finish.Goals as goal
 
 pub returns : goal.returns

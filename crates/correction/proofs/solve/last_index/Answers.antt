@@ -1,7 +1,6 @@
 -- The next kept place, or the one after it.
 use native.Mathlib.Omega.{arith}
 use Rattle.correction.proofs.Running.{next_below, last_next, last_further}
-use borrow.Author.Rules.{rules}
 use Rattle.correction.proofs.solve.last_index.Goals as goal
 
 pub bounds-l-j : goal.bounds-l-j

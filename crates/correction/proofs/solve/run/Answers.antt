@@ -1,7 +1,5 @@
 use mathlib.Core.Path.{◌≡◌, sym, ◌∙◌}
-use Prim.Native.Nat.{◌≤◌, ◌-◌}
 use native.Mathlib.Omega.{arith}
-use Rattle.correction.specs.Runs.{RanKept}
 use Rattle.correction.proofs.Running.{ran_none, ran_fits, next_inside, ran_more}
 use Rattle.correction.proofs.solve.run.Goals as goal
 

@@ -2,7 +2,6 @@
 use mathlib.Core.Path.{sym, ◌∙◌}
 use Rattle.solving.proofs.Link.{accepted}
 use Rattle.correction.proofs.Solving.{kept_placed, runs_kept, two_left, word_second, word_first}
-use borrow.Author.Rules.{rules}
 use Rattle.correction.proofs.solve.solve_kept.Goals as goal
 
 pub overflow_sub-count : goal.overflow_sub-count

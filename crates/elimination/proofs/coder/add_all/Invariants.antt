@@ -1,8 +1,7 @@
 -- The loop ends, and stays within the memory: no length changes.
 use mathlib.Core.Path.{◌≡◌}
 use Prim.Native.Nat.{◌-◌}
-use lib.ListN.{length, length-set}
-use borrow.Author.Rules.{rules}
+use lib.ListN.{length}
 use Rattle.elimination.proofs.coder.add_all.Given as goal
 
 abbrev pub invariant-loop-i : goal.invariant-loop-i

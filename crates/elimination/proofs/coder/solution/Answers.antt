@@ -1,6 +1,5 @@
 -- A number that passes the test is a field's, and so its tables are.
 use mathlib.Core.Path.{sym, ◌∙◌}
-use borrow.Author.Tests.{not-false}
 use borrow.Author.Rules.{rules}
 use Rattle.field.specs.Galois.{IsField}
 use Rattle.field.proofs.Galois.{is_field_lem}

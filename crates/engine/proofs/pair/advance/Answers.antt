@@ -4,7 +4,6 @@ use mathlib.Core.Path.{sym}
 use native.Mathlib.Omega.{arith}
 use lib.Seq.{length-take-le}
 use Rattle.engine.proofs.States.{stepped_pair}
-use borrow.Author.Rules.{rules}
 use Rattle.engine.proofs.pair.advance.Goals as goal
 
 pub slice_bounds-value-end-2 : goal.slice_bounds-value-end-2

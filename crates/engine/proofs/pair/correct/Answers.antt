@@ -7,7 +7,6 @@ use Rattle.basics.proofs.Lists.{holds_as}
 use Rattle.field.specs.Galois.{galois}
 use Rattle.elliptic.specs.Pair.{add_scaled}
 use Rattle.engine.proofs.Laws.{corrected_as}
-use borrow.Author.Rules.{rules}
 use Rattle.engine.proofs.pair.correct.Goals as goal
 
 pub slice_bounds-value-end-2 : goal.slice_bounds-value-end-2

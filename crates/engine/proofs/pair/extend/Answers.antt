@@ -5,7 +5,6 @@ use native.Mathlib.Omega.{arith}
 use mathlib.Core.List.{◌++◌}
 use lib.ListN.{take, replicate}
 use Rattle.basics.proofs.Lists.{part_length, extended}
-use borrow.Author.Rules.{rules}
 use Rattle.engine.proofs.pair.extend.Goals as goal
 
 pub returns : goal.returns

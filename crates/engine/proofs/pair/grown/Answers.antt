@@ -1,6 +1,5 @@
 -- A constant grows by one coefficient, and any other function by two.
 use borrow.Author.Tests.{ne_eqb}
-use borrow.Author.Rules.{rules}
 use Rattle.engine.proofs.pair.grown.Goals as goal
 
 pub returns-then-n-eq1 : goal.returns-then-n-eq1

@@ -1,5 +1,4 @@
 -- The arrays are handed on in the order L, U.
-use borrow.Author.Rules.{rules}
 use Rattle.engine.proofs.States.{turned_round, swap_room}
 use Rattle.engine.proofs.pair.pair_turn.Goals as goal
 

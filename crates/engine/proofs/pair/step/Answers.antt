@@ -7,7 +7,6 @@ use lib.Seq.{length-take-le}
 use Rattle.field.specs.Galois.{galois}
 use Rattle.elliptic.specs.Pair.{held}
 use Rattle.engine.proofs.States.{step_zero, step_other, kept_filled, stepped_filled}
-use borrow.Author.Rules.{rules}
 use Rattle.engine.proofs.pair.step.Goals as goal
 
 pub slice_bounds-value-end-2 : goal.slice_bounds-value-end-2

@@ -1,5 +1,4 @@
 -- The arrays are handed on in the order L, U.
-use borrow.Author.Rules.{rules}
 use Rattle.engine.proofs.States.{filled_round, swap_room}
 use Rattle.engine.proofs.pair.turn.Goals as goal
 

@@ -1,10 +1,9 @@
-use Prim.Native.Nat.{◌≤◌, ◌-◌}
+use Prim.Native.Nat.{◌-◌}
 use mathlib.Core.Path.{◌≡◌, refl, ◌∙◌, ap}
 use native.Mathlib.Omega.{arith}
 use lib.ListN.{length, get_or, length-set}
-use Rattle.basics.proofs.Loops.{filled, filled_turn, filled_all}
+use Rattle.basics.proofs.Loops.{filled_turn, filled_all}
 use Rattle.engine.specs.Places.{coordinate_at}
-use borrow.Author.Rules.{rules}
 use Rattle.engine.proofs.places.gather.Goals as goal
 
 pub loop-i-init : goal.loop-i-init

@@ -1,11 +1,9 @@
 -- The loop's invariant: the first i coordinates are in place, and the rest is as it was.
 use Prim.Native.Nat.{◌≤◌, ◌-◌}
-use mathlib.Core.Path.{◌≡◌, refl, ◌∙◌, ap}
-use native.Mathlib.Omega.{arith}
-use lib.ListN.{length, get_or, length-set}
-use Rattle.basics.proofs.Loops.{filled, filled_turn, filled_all}
+use mathlib.Core.Path.{◌≡◌}
+use lib.ListN.{length}
+use Rattle.basics.proofs.Loops.{filled}
 use Rattle.engine.specs.Places.{coordinate_at}
-use borrow.Author.Rules.{rules}
 use Rattle.engine.proofs.places.gather.Given as goal
 
 abbrev pub invariant-loop-i : goal.invariant-loop-i

@@ -1,5 +1,4 @@
 -- The coordinates stand at the index of the place.
-use borrow.Author.Rules.{rules}
 use Rattle.engine.proofs.places.point_at.Goals as goal
 
 pub returns : goal.returns

@@ -1,11 +1,7 @@
-use mathlib.Core.Path.{◌≡◌, refl, sym, ◌∙◌}
-use Prim.Native.Nat.{◌-◌}
+use mathlib.Core.Path.{refl, sym, ◌∙◌}
 use native.Mathlib.Omega.{arith}
-use lib.ListN.{length, length-set}
-use borrow.Author.Rules.{rules}
-use Rattle.field.specs.Galois.{galois}
-use Rattle.elliptic.specs.Pair.{add_scaled}
-use Rattle.engine.proofs.Laws.{logged, by_logged, sum_from_lem, add_turn, add_end}
+use lib.ListN.{length-set}
+use Rattle.engine.proofs.Laws.{logged, by_logged, add_turn, add_end}
 use Rattle.engine.proofs.slices.add_scaled.Goals as goal
 
 pub loop-i-init : goal.loop-i-init

@@ -1,12 +1,10 @@
 -- The loop's invariant: what is done, and what the rest is to become, is the sum.
-use mathlib.Core.Path.{◌≡◌, refl, sym, ◌∙◌}
+use mathlib.Core.Path.{◌≡◌}
 use Prim.Native.Nat.{◌-◌}
-use native.Mathlib.Omega.{arith}
-use lib.ListN.{length, length-set}
-use borrow.Author.Rules.{rules}
+use lib.ListN.{length}
 use Rattle.field.specs.Galois.{galois}
 use Rattle.elliptic.specs.Pair.{add_scaled}
-use Rattle.engine.proofs.Laws.{logged, by_logged, sum_from_lem, add_turn, add_end}
+use Rattle.engine.proofs.Laws.{sum_from_lem}
 use Rattle.engine.proofs.slices.add_scaled.Given as goal
 
 abbrev pub invariant-loop-i : goal.invariant-loop-i

@@ -1,12 +1,8 @@
 -- The loop's invariant: zeros to i, and what was there from i on.
-use mathlib.Core.Path.{◌≡◌, refl, ◌∙◌}
+use mathlib.Core.Path.{◌≡◌}
 use Prim.Native.Nat.{◌≤◌, ◌-◌}
-use native.Mathlib.Nat.{le_refl}
-use native.Mathlib.Omega.{arith}
-use lib.ListN.{length, drop, replicate, length-set, drop_of_length-le}
-use mathlib.Core.List.{◌++◌, append-nil}
-use borrow.Author.Fill.{fill_more}
-use borrow.Author.Rules.{rules}
+use lib.ListN.{length, drop, replicate}
+use mathlib.Core.List.{◌++◌}
 use Rattle.engine.proofs.slices.clear.Given as goal
 
 abbrev pub invariant-loop-i : goal.invariant-loop-i

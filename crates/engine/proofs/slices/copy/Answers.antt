@@ -1,10 +1,8 @@
 use mathlib.Core.Path.{◌≡◌, refl, ◌∙◌}
-use Prim.Native.Nat.{◌≤◌, ◌-◌}
 use native.Mathlib.Omega.{arith}
-use lib.ListN.{length, get_or, length-set}
-use Rattle.basics.proofs.Loops.{filled, filled_turn, filled_front}
+use lib.ListN.{get_or, length-set}
+use Rattle.basics.proofs.Loops.{filled_turn, filled_front}
 use Rattle.engine.proofs.Laws.{table_take}
-use borrow.Author.Rules.{rules}
 use Rattle.engine.proofs.slices.copy.Goals as goal
 
 pub loop-i-init : goal.loop-i-init

@@ -1,11 +1,8 @@
 -- The loop's invariant: the first i elements are copied, and the rest of out is as it was.
-use mathlib.Core.Path.{◌≡◌, refl, ◌∙◌}
+use mathlib.Core.Path.{◌≡◌}
 use Prim.Native.Nat.{◌≤◌, ◌-◌}
-use native.Mathlib.Omega.{arith}
-use lib.ListN.{length, get_or, length-set}
-use Rattle.basics.proofs.Loops.{filled, filled_turn, filled_front}
-use Rattle.engine.proofs.Laws.{table_take}
-use borrow.Author.Rules.{rules}
+use lib.ListN.{length, get_or}
+use Rattle.basics.proofs.Loops.{filled}
 use Rattle.engine.proofs.slices.copy.Given as goal
 
 abbrev pub invariant-loop-i : goal.invariant-loop-i

@@ -1,9 +1,7 @@
 use mathlib.Core.Path.{◌≡◌, refl, sym, ◌∙◌}
-use Prim.Native.Nat.{◌-◌}
 use native.Mathlib.Omega.{arith}
 use lib.ListN.{length, length-set}
-use borrow.Author.Rules.{rules}
-use Rattle.engine.proofs.Laws.{logged, by_logged, product_from, linear_start, linear_turn, linear_end}
+use Rattle.engine.proofs.Laws.{logged, by_logged, linear_start, linear_turn, linear_end}
 use Rattle.engine.proofs.slices.times_linear.Goals as goal
 
 pub product_by_log-requires : goal.product_by_log-requires

@@ -1,10 +1,8 @@
 -- The loop's invariant: what is done, and what the rest is to become, is the product.
-use mathlib.Core.Path.{◌≡◌, refl, sym, ◌∙◌}
+use mathlib.Core.Path.{◌≡◌}
 use Prim.Native.Nat.{◌-◌}
-use native.Mathlib.Omega.{arith}
-use lib.ListN.{length, length-set}
-use borrow.Author.Rules.{rules}
-use Rattle.engine.proofs.Laws.{logged, by_logged, product_from, linear_start, linear_turn, linear_end}
+use lib.ListN.{length}
+use Rattle.engine.proofs.Laws.{product_from}
 use Rattle.engine.proofs.slices.times_linear.Given as goal
 
 abbrev pub invariant-loop-i : goal.invariant-loop-i

@@ -1,9 +1,6 @@
 use mathlib.Core.Path.{◌≡◌}
-use Prim.Native.Nat.{◌≤◌, ◌<◌}
 use native.Mathlib.Omega.{arith}
-use lib.ListN.{length}
-use borrow.Author.Rules.{rules}
-use Rattle.engine.proofs.Laws.{logged, by_logged, Passed, horner_start, horner_turn, value_none, value_end}
+use Rattle.engine.proofs.Laws.{logged, by_logged, horner_start, horner_turn, value_none, value_end}
 use Rattle.engine.proofs.slices.value.Goals as goal
 
 pub returns-then-f-eq0 : goal.returns-then-f-eq0

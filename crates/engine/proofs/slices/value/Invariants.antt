@@ -1,10 +1,7 @@
 -- The loop's invariant: (r, s) is the pair of the coefficients from i on.
-use mathlib.Core.Path.{◌≡◌}
 use Prim.Native.Nat.{◌≤◌, ◌<◌}
-use native.Mathlib.Omega.{arith}
 use lib.ListN.{length}
-use borrow.Author.Rules.{rules}
-use Rattle.engine.proofs.Laws.{logged, by_logged, Passed, horner_start, horner_turn, value_none, value_end}
+use Rattle.engine.proofs.Laws.{Passed}
 use Rattle.engine.proofs.slices.value.Given as goal
 
 abbrev pub invariant-loop-i : goal.invariant-loop-i

@@ -1,8 +1,6 @@
-use Prim.Native.Nat.{◌-◌, ◌<◌}
+use Prim.Native.Nat.{◌<◌}
 use native.Mathlib.Omega.{arith}
-use lib.ListN.{length}
-use Rattle.evaluation.proofs.Marks.{Marked, marked_none, mark_least, marked_more, marked_all}
-use borrow.Author.Rules.{rules}
+use Rattle.evaluation.proofs.Marks.{marked_none, mark_least, marked_more, marked_all}
 use Rattle.evaluation.proofs.distinct.distinct.Goals as goal
 
 pub loop-i-init : goal.loop-i-init

@@ -1,9 +1,7 @@
 -- The loop's invariant: the first i coordinates are listed, and so is every byte that is marked.
-use Prim.Native.Nat.{◌-◌, ◌<◌}
-use native.Mathlib.Omega.{arith}
+use Prim.Native.Nat.{◌-◌}
 use lib.ListN.{length}
-use Rattle.evaluation.proofs.Marks.{Marked, marked_none, mark_least, marked_more, marked_all}
-use borrow.Author.Rules.{rules}
+use Rattle.evaluation.proofs.Marks.{Marked}
 use Rattle.evaluation.proofs.distinct.distinct.Given as goal
 
 abbrev pub invariant-loop-i : goal.invariant-loop-i

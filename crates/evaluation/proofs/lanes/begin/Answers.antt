@@ -1,7 +1,6 @@
 -- No coefficient is passed, and the pair is zero.
 use mathlib.Core.Path.{refl}
 use Rattle.engine.proofs.Laws.{horner_start}
-use borrow.Author.Rules.{rules}
 use Rattle.evaluation.proofs.lanes.begin.Goals as goal
 
 pub returns : goal.returns

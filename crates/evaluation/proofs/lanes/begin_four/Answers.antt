@@ -1,6 +1,5 @@
 -- Four lanes begin.
 use Rattle.evaluation.proofs.Passing.{begun_four}
-use borrow.Author.Rules.{rules}
 use Rattle.evaluation.proofs.lanes.begin_four.Goals as goal
 
 pub returns : goal.returns

@@ -1,10 +1,7 @@
 use mathlib.Core.Path.{◌≡◌}
-use Prim.Native.Nat.{◌+◌, ◌-◌, ◌≤◌, ◌<◌}
+use Prim.Native.Nat.{◌+◌, ◌-◌}
 use native.Mathlib.Omega.{arith}
-use lib.ListN.{length}
-use Rattle.evaluation.specs.Parts.{AtFour, Taken}
 use Rattle.evaluation.proofs.Passing.{own_four, taken_on}
-use borrow.Author.Rules.{rules}
 use Rattle.evaluation.proofs.lanes.run_four.Goals as goal
 
 pub begin_four-g-requires : goal.begin_four-g-requires

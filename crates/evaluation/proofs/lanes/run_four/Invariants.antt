@@ -1,11 +1,7 @@
 -- The loop's invariant: each lane has passed the coefficients from i on, at its own coordinate.
-use mathlib.Core.Path.{◌≡◌}
-use Prim.Native.Nat.{◌+◌, ◌-◌, ◌≤◌, ◌<◌}
-use native.Mathlib.Omega.{arith}
+use Prim.Native.Nat.{◌≤◌, ◌<◌}
 use lib.ListN.{length}
 use Rattle.evaluation.specs.Parts.{AtFour, Taken}
-use Rattle.evaluation.proofs.Passing.{own_four, taken_on}
-use borrow.Author.Rules.{rules}
 use Rattle.evaluation.proofs.lanes.run_four.Given as goal
 
 abbrev pub invariant-loop-i : goal.invariant-loop-i

@@ -1,9 +1,5 @@
-use Prim.Native.Nat.{ℕ, ◌-◌, ◌<◌}
 use native.Mathlib.Omega.{arith}
-use lib.ListN.{get_or}
-use Rattle.evaluation.specs.Parts.{Bytes, Right}
 use Rattle.evaluation.proofs.Passing.{split_more}
-use borrow.Author.Rules.{rules}
 use Rattle.evaluation.proofs.lanes.split.Goals as goal
 
 pub loop-j-init : goal.loop-j-init

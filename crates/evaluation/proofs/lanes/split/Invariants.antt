@@ -1,10 +1,7 @@
 -- The loop's invariant: both parts are stored over the first j coordinates.
 use Prim.Native.Nat.{ℕ, ◌-◌, ◌<◌}
-use native.Mathlib.Omega.{arith}
 use lib.ListN.{get_or}
 use Rattle.evaluation.specs.Parts.{Bytes, Right}
-use Rattle.evaluation.proofs.Passing.{split_more}
-use borrow.Author.Rules.{rules}
 use Rattle.evaluation.proofs.lanes.split.Given as goal
 
 abbrev pub invariant-loop-j : goal.invariant-loop-j

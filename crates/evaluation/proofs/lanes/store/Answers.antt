@@ -1,7 +1,6 @@
 -- What is stored are the two parts over the lane's coordinate.
 use Rattle.engine.proofs.Laws.{logged, by_logged}
 use Rattle.evaluation.proofs.Passing.{stored}
-use borrow.Author.Rules.{rules}
 use Rattle.evaluation.proofs.lanes.store.Goals as goal
 
 pub product_by_log-requires : goal.product_by_log-requires

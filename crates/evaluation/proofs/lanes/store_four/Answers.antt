@@ -1,6 +1,5 @@
 -- Each lane's two parts are stored, and those before are kept.
 use Rattle.evaluation.proofs.Passing.{stored_four}
-use borrow.Author.Rules.{rules}
 use Rattle.evaluation.proofs.lanes.store_four.Goals as goal
 
 pub store-requires-2 : goal.store-requires-2

@@ -2,7 +2,6 @@
 use mathlib.Core.Path.{refl}
 use Rattle.engine.proofs.Laws.{logged, by_logged}
 use Rattle.evaluation.proofs.Passing.{passed_more}
-use borrow.Author.Rules.{rules}
 use Rattle.evaluation.proofs.lanes.turn.Goals as goal
 
 pub product_by_log-requires : goal.product_by_log-requires

@@ -1,12 +1,11 @@
 use mathlib.Core.Path.{◌≡◌, refl, ap, ◌∙◌}
-use Prim.Native.Nat.{◌≤◌, ◌<◌, ◌-◌}
+use Prim.Native.Nat.{◌<◌}
 use native.Mathlib.Omega.{arith}
 use lib.ListN.{length, length-set}
 use Rattle.basics.specs.Lists.{table}
-use Rattle.basics.proofs.Loops.{filled, filled_turn, filled_all}
+use Rattle.basics.proofs.Loops.{filled_turn, filled_all}
 use Rattle.evaluation.specs.Parts.{joined_at}
 use Rattle.evaluation.proofs.Passing.{joined}
-use borrow.Author.Rules.{rules}
 use Rattle.evaluation.proofs.word.join.Goals as goal
 
 pub loop-i-init : goal.loop-i-init

@@ -1,13 +1,9 @@
 -- The loop's invariant: the first i values are in place, and the rest of out is as it was.
-use mathlib.Core.Path.{◌≡◌, refl, ap, ◌∙◌}
-use Prim.Native.Nat.{◌≤◌, ◌<◌, ◌-◌}
-use native.Mathlib.Omega.{arith}
-use lib.ListN.{length, length-set}
-use Rattle.basics.specs.Lists.{table}
-use Rattle.basics.proofs.Loops.{filled, filled_turn, filled_all}
+use mathlib.Core.Path.{◌≡◌}
+use Prim.Native.Nat.{◌≤◌, ◌-◌}
+use lib.ListN.{length}
+use Rattle.basics.proofs.Loops.{filled}
 use Rattle.evaluation.specs.Parts.{joined_at}
-use Rattle.evaluation.proofs.Passing.{joined}
-use borrow.Author.Rules.{rules}
 use Rattle.evaluation.proofs.word.join.Given as goal
 
 abbrev pub invariant-loop-i : goal.invariant-loop-i

@@ -1,6 +1,5 @@
 -- Both parts are right over every coordinate that is listed, so over every point's.
 use Rattle.evaluation.proofs.Passing.{all_joined}
-use borrow.Author.Rules.{rules}
 use Rattle.evaluation.proofs.word.write_word.Goals as goal
 
 pub returns : goal.returns

@@ -2,7 +2,6 @@
 use Prim.Native.Nat.{◌*◌, ◌≤◌}
 use native.Mathlib.Omega.{arith}
 use native.Mathlib.Nat.{mul-le-mul}
-use borrow.Author.Rules.{rules}
 use Rattle.gap.proofs.gap.all_tries.Goals as goal
 
 singles : (c : goal.Start) → c.args.k * c.args.s ≤ 73440

@@ -4,7 +4,6 @@ use mathlib.Core.Path.{◌≡◌, sym, ◌∙◌, ap}
 use native.Mathlib.Omega.{arith}
 use native.Mathlib.Nat.{mul-le-mul, mul-pos}
 use lib.ListN.{length}
-use borrow.Author.Rules.{rules}
 use Rattle.patterns.specs.Best.{entries}
 use Rattle.patterns.specs.Cheapest.{least}
 use Rattle.patterns.specs.Computed.{least_left}
@@ -29,7 +28,7 @@ nonzero_div-left c = mul-pos c.requires.2 c.requires.2
 
 -- the least of the cost and all parts
 all : (c : goal.After-triple_left) →
- c.triple_left.result ≡ least c.args.cost (least_left (entries c.args.trusts.now c.args.places.now) (length c.args.places.now) c.args.s c.args.tries)
+    c.triple_left.result ≡ least c.args.cost (least_left (entries c.args.trusts.now c.args.places.now) (length c.args.places.now) c.args.s c.args.tries)
 all c =
     least_parts (entries c.args.trusts.now c.args.places.now) (length c.args.places.now) c.args.s c.args.tries c.args.cost
     c.single_left-single.ensures c.less-left.ensures c.pair_left-pair.ensures c.triple_left.ensures

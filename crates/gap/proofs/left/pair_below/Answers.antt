@@ -1,7 +1,6 @@
 -- There are two places, or there are not.
 use mathlib.Core.Path.{sym, ◌∙◌}
 use native.Mathlib.Omega.{arith}
-use borrow.Author.Rules.{rules}
 use Rattle.patterns.specs.Best.{entries}
 use Rattle.gap.proofs.Least.{below_some, below_none}
 use Rattle.gap.proofs.left.pair_below.Goals as goal

@@ -1,9 +1,7 @@
 use Prim.Native.Nat.{◌-◌, ◌≤◌}
-use mathlib.Core.Path.{◌≡◌, refl, sym, ◌∙◌}
+use mathlib.Core.Path.{refl, sym, ◌∙◌}
 use native.Mathlib.Omega.{arith}
-use lib.ListN.{length}
 use Rattle.patterns.specs.Best.{entries}
-use Rattle.patterns.specs.Computed.{pair_left}
 use Rattle.gap.proofs.Least.{row_passed, passed_true, passed_false}
 use Rattle.gap.proofs.left.pair_left.Goals as goal
 

@@ -1,11 +1,9 @@
 -- The loop's invariant: the pairs of k places behind `left` of them are those behind `done` of all.
-use Prim.Native.Nat.{◌-◌, ◌≤◌}
-use mathlib.Core.Path.{◌≡◌, refl, sym, ◌∙◌}
-use native.Mathlib.Omega.{arith}
+use Prim.Native.Nat.{◌≤◌}
+use mathlib.Core.Path.{◌≡◌}
 use lib.ListN.{length}
 use Rattle.patterns.specs.Best.{entries}
 use Rattle.patterns.specs.Computed.{pair_left}
-use Rattle.gap.proofs.Least.{row_passed, passed_true, passed_false}
 use Rattle.gap.proofs.left.pair_left.Given as goal
 
 abbrev pub invariant-loop-k : goal.invariant-loop-k

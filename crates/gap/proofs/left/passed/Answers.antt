@@ -1,7 +1,6 @@
 -- Both tests, one after the other.
 use native.Mathlib.Omega.{arith}
 use borrow.Author.Tests.{le-leb, lt-leb}
-use borrow.Author.Rules.{rules}
 use Rattle.gap.proofs.left.passed.Goals as goal
 
 pub returns-then-k-ge2 : goal.returns-then-k-ge2

@@ -3,7 +3,6 @@ use Prim.Native.Nat.{◌+◌, ◌<◌}
 use mathlib.Core.Path.{sym}
 use mathlib.Core.Logic.{⊎_elim}
 use native.Mathlib.Omega.{arith}
-use borrow.Author.Rules.{rules}
 use Rattle.patterns.specs.Best.{entries}
 use Rattle.gap.proofs.Least.{row_some, row_none}
 use Rattle.gap.proofs.left.row_left.Goals as goal

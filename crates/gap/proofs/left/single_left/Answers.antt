@@ -2,7 +2,6 @@
 use Prim.Native.Nat.{min}
 use mathlib.Core.Path.{sym, ◌∙◌, ap}
 use native.Mathlib.Omega.{arith}
-use borrow.Author.Rules.{rules}
 use Rattle.patterns.specs.Best.{entries}
 use Rattle.gap.proofs.Least.{single_some, single_none}
 use Rattle.gap.proofs.left.single_left.Goals as goal

@@ -1,7 +1,6 @@
 -- There are three places, or there are not.
 use mathlib.Core.Path.{sym, ◌∙◌}
 use native.Mathlib.Omega.{arith}
-use borrow.Author.Rules.{rules}
 use Rattle.patterns.specs.Best.{entries}
 use Rattle.gap.proofs.Least.{triple_some, triple_none}
 use Rattle.gap.proofs.left.triple_left.Goals as goal

@@ -6,7 +6,6 @@ use native.Mathlib.Omega.{arith}
 use lib.ListN.{length, get_or}
 use mir.Syntax.{w8}
 use mir.Val.{Fits}
-use borrow.Author.Rules.{rules}
 use Rattle.basics.proofs.Lists.{get_or_map_in}
 use Rattle.codewords.specs.Codewords.{place, symbol_at}
 use Rattle.patterns.specs.Best.{entries}

@@ -3,7 +3,6 @@ use mathlib.Core.Path.{refl}
 use native.Mathlib.Omega.{arith}
 use Rattle.generator.proofs.Turns.{rows_sized}
 use Rattle.generator.proofs.Progress.{advance_one}
-use borrow.Author.Rules.{rules}
 use Rattle.generator.proofs.advance.advance_one.Goals as goal
 
 pub rows_step-sizes-requires : goal.rows_step-sizes-requires

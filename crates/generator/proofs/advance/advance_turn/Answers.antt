@@ -1,7 +1,6 @@
 -- The arrays are handed on in the order L, U.
 use Rattle.generator.proofs.Turns.{rows_turned}
 use Rattle.generator.proofs.Progress.{advance_round}
-use borrow.Author.Rules.{rules}
 use Rattle.generator.proofs.advance.advance_turn.Goals as goal
 
 pub advance-d-requires : goal.advance-d-requires

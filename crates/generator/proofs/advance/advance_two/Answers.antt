@@ -2,12 +2,10 @@
 use mathlib.Core.Bool.{true}
 use mathlib.Core.Path.{◌≡◌, refl}
 use native.Mathlib.Omega.{arith}
-use borrow.Author.Tests.{not-false}
 use Rattle.two_places.specs.Turns.{Turns}
 use Rattle.two_places.proofs.Turns.{first_steps, room_between}
 use Rattle.generator.proofs.Turns.{rows_sized}
 use Rattle.generator.proofs.Progress.{advance_two}
-use borrow.Author.Rules.{rules}
 use Rattle.generator.proofs.advance.advance_two.Goals as goal
 
 pub advance_one-requires : goal.advance_one-requires
@@ -15,7 +13,7 @@ advance_one-requires c =
     record { tables = c.requires.tables; index_lt_limit = (omega (arith, c.requires.index_bound.0), c.requires.index_bound.1, c.requires.index_bound.2, c.requires.index_bound.3, c.requires.index_bound.4) }
 
 turn : (c : goal.After-both_rows-arg-4-1) → (c.after_step-z.result.turned ≡ true) ×
- (Turns c.args.m c.args.xs.now c.args.index.0 c.args.l.now c.args.u.now c.find_factors-w.result)
+    (Turns c.args.m c.args.xs.now c.args.index.0 c.args.l.now c.args.u.now c.find_factors-w.result)
 turn c = let t = c.turns.ensures (c.if-not-turns.false) in
     (t.0, record { are = c.find_factors-w.ensures; some = t.1; next_some = t.2 })
 
@@ -27,7 +25,7 @@ pub overflow_add-result : goal.overflow_add-result
 overflow_add-result c = record { fits = omega (arith, c.requires.index_bound.0, c.requires.index_bound.1, c.requires.index_bound.4) }
 
 turn_2 : (c : goal.After-slice_known-9-1) → (c.after_step-z.result.turned ≡ true) ×
- (Turns c.args.m c.args.xs.now c.args.index.0 c.args.l.now c.args.u.now c.find_factors-w.result)
+    (Turns c.args.m c.args.xs.now c.args.index.0 c.args.l.now c.args.u.now c.find_factors-w.result)
 turn_2 c = let t = c.turns.ensures (c.if-not-turns.false) in
     (t.0, record { are = c.find_factors-w.ensures; some = t.1; next_some = t.2 })
 

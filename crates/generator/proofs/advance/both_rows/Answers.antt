@@ -4,7 +4,6 @@ use lib.ListN.{length}
 use native.Mathlib.Omega.{arith}
 use Rattle.generator.proofs.Turns.{rows_turned, rows_sized}
 use Rattle.generator.proofs.Progress.{first_rows_lem, second_rows}
-use borrow.Author.Rules.{rules}
 use Rattle.generator.proofs.advance.both_rows.Goals as goal
 
 pub raise_rows-requires-2 : goal.raise_rows-requires-2

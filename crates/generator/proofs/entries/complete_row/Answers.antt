@@ -1,8 +1,7 @@
-use Prim.Native.Nat.{◌-◌, ◌≤◌}
-use mathlib.Core.Path.{◌≡◌, refl}
+use mathlib.Core.Path.{refl}
 use native.Mathlib.Omega.{arith}
-use lib.ListN.{length, length-set}
-use Rattle.generator.proofs.Symbols.{Completing, completing_none, completing_over, completing_away, completing_all}
+use lib.ListN.{length-set}
+use Rattle.generator.proofs.Symbols.{completing_none, completing_over, completing_away, completing_all}
 use Rattle.generator.proofs.entries.complete_row.Goals.{then-xs-s, else-xs-s}
 use Rattle.generator.proofs.entries.complete_row.Goals as goal
 
@@ -34,17 +33,18 @@ pub loop-s-smaller : goal.loop-s-smaller
 loop-s-smaller c = omega (arith, c.loop-s-test.true)
 
 pub loop-s-preserved : goal.loop-s-preserved
-loop-s-preserved c =
-    (
-      omega (arith, c.loop-s.invariant.0),
-      omega (arith, c.loop-s-test.true),
-      elim c.if-xs-s.branch [
-        then-xs-s w ↦ rw w.row-is (simp length-set c.loop-s.invariant.2)
-        | else-xs-s w ↦ rw w.row-is c.loop-s.invariant.2 ],
-      elim c.if-xs-s.branch [
-        then-xs-s w ↦ rw w.row-is (completing_over c.args.index.0 c.args.count c.args.xs.now c.args.a.now c.args.b.now c.args.sums.now c.args.row.now c.loop-s.invariant.0 c.loop-s-test.true c.loop-s.invariant.3 w.if-xs-s.true w.index_in-i.ensures)
-        | else-xs-s w ↦ rw w.row-is (completing_away c.args.index.0 c.args.count c.args.xs.now c.args.a.now c.args.b.now c.args.sums.now c.args.row.now c.loop-s.invariant.0 c.loop-s-test.true c.loop-s.invariant.3 w.if-xs-s.false) ],
-    )
+loop-s-preserved c = (
+  omega (arith, c.loop-s.invariant.0),
+  omega (arith, c.loop-s-test.true),
+  elim c.if-xs-s.branch [
+    | then-xs-s w ↦ rw w.row-is (simp length-set c.loop-s.invariant.2)
+    | else-xs-s w ↦ rw w.row-is c.loop-s.invariant.2
+  ],
+  elim c.if-xs-s.branch [
+    | then-xs-s w ↦ rw w.row-is (completing_over c.args.index.0 c.args.count c.args.xs.now c.args.a.now c.args.b.now c.args.sums.now c.args.row.now c.loop-s.invariant.0 c.loop-s-test.true c.loop-s.invariant.3 w.if-xs-s.true w.index_in-i.ensures)
+    | else-xs-s w ↦ rw w.row-is (completing_away c.args.index.0 c.args.count c.args.xs.now c.args.a.now c.args.b.now c.args.sums.now c.args.row.now c.loop-s.invariant.0 c.loop-s-test.true c.loop-s.invariant.3 w.if-xs-s.false)
+  ],
+)
 
 pub index_of-requires : goal.index_of-requires
 index_of-requires c = c.requires.2

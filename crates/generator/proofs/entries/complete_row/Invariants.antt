@@ -1,10 +1,8 @@
 -- The loop's invariant: the row is complete at the points of the slots before s.
 use Prim.Native.Nat.{◌-◌, ◌≤◌}
-use mathlib.Core.Path.{◌≡◌, refl}
-use mathlib.Core.Logic.{⊎_elim}
-use native.Mathlib.Omega.{arith}
-use lib.ListN.{length, length-set}
-use Rattle.generator.proofs.Symbols.{Completing, completing_none, completing_over, completing_away, completing_all}
+use mathlib.Core.Path.{◌≡◌}
+use lib.ListN.{length}
+use Rattle.generator.proofs.Symbols.{Completing}
 use Rattle.generator.proofs.entries.complete_row.Given as goal
 
 abbrev pub invariant-loop-s : goal.invariant-loop-s

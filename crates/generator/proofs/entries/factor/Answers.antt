@@ -1,7 +1,6 @@
 -- The looked up logarithm stands for its number in every product.
 use mathlib.Core.Path.{refl}
 use Rattle.engine.proofs.Laws.{logged, by_logged}
-use borrow.Author.Rules.{rules}
 use Rattle.generator.proofs.entries.factor.Goals as goal
 
 pub returns : goal.returns

@@ -1,12 +1,8 @@
-use Prim.Native.Nat.{◌-◌, ◌≤◌}
-use mathlib.Core.Path.{◌≡◌, refl}
+use mathlib.Core.Path.{refl}
 use native.Mathlib.Omega.{arith}
-use lib.ListN.{length, get_or, length-set}
-use Rattle.field.specs.Sum.{◌⊕◌}
-use Rattle.values.specs.Values.{Sweeping}
+use lib.ListN.{length-set}
 use Rattle.values.proofs.Sweeps.{sweeping_none, sweeping_turn}
-use Rattle.generator.specs.Rows.{part_at}
-use Rattle.generator.proofs.Symbols.{Filling, filling_none, filling_turn, filling_all, part_by, sum_by}
+use Rattle.generator.proofs.Symbols.{filling_none, filling_turn, filling_all, part_by, sum_by}
 use Rattle.generator.proofs.entries.fill_parts.Goals as goal
 
 pub bounds-xs-j : goal.bounds-xs-j

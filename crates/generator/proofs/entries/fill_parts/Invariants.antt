@@ -1,13 +1,11 @@
 -- The loop's invariant: the parts of the slots before s are at the indices of their points, and added to their sums.
 use Prim.Native.Nat.{◌-◌, ◌≤◌}
-use mathlib.Core.Path.{◌≡◌, refl}
-use native.Mathlib.Omega.{arith}
-use lib.ListN.{length, get_or, length-set}
+use mathlib.Core.Path.{◌≡◌}
+use lib.ListN.{length, get_or}
 use Rattle.field.specs.Sum.{◌⊕◌}
 use Rattle.values.specs.Values.{Sweeping}
-use Rattle.values.proofs.Sweeps.{sweeping_none, sweeping_turn}
 use Rattle.generator.specs.Rows.{part_at}
-use Rattle.generator.proofs.Symbols.{Filling, filling_none, filling_turn, filling_all, part_by, sum_by}
+use Rattle.generator.proofs.Symbols.{Filling}
 use Rattle.generator.proofs.entries.fill_parts.Given as goal
 
 abbrev pub invariant-loop-s : goal.invariant-loop-s

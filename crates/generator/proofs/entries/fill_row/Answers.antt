@@ -1,5 +1,4 @@
 -- The factors are looked up, and then the parts written.
-use borrow.Author.Rules.{rules}
 use Rattle.generator.proofs.entries.fill_row.Goals as goal
 
 pub fill_parts-requires : goal.fill_parts-requires

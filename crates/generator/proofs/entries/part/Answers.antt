@@ -2,7 +2,6 @@
 use mathlib.Core.Path.{◌∙◌, ap, ap₂}
 use Rattle.field.specs.Sum.{◌⊕◌}
 use Rattle.field.specs.Galois.{product, inverse}
-use borrow.Author.Rules.{rules}
 use Rattle.generator.proofs.entries.part.Goals as goal
 
 pub returns : goal.returns

@@ -1,7 +1,6 @@
 -- By cases of whether L is zero at the point.
 use native.Mathlib.Omega.{arith}
 use Rattle.generator.proofs.Turns.{rows_turned}
-use borrow.Author.Rules.{rules}
 use Rattle.generator.proofs.factors.raise_either.Goals as goal
 
 pub bounds-l-i : goal.bounds-l-i

@@ -2,7 +2,6 @@
 use native.Mathlib.Omega.{arith}
 use lib.ListN.{length-set}
 use Rattle.generator.proofs.Turns.{rows_raised, fewer_rows}
-use borrow.Author.Rules.{rules}
 use Rattle.generator.proofs.factors.raise_rows.Goals as goal
 
 pub bounds-xs-i : goal.bounds-xs-i

@@ -1,7 +1,6 @@
 -- The rows, by cases, and then L and U.
 use native.Mathlib.Omega.{arith}
 use Rattle.generator.proofs.Adding.{rows_both}
-use borrow.Author.Rules.{rules}
 use Rattle.generator.proofs.factors.rows_step.Goals as goal
 
 pub raise_either-requires : goal.raise_either-requires

@@ -2,7 +2,6 @@
 use Rattle.values.proofs.Steps.{steps_round}
 use Rattle.generator.proofs.Adding.{rows_round}
 use Rattle.generator.proofs.Turns.{rows_turned}
-use borrow.Author.Rules.{rules}
 use Rattle.generator.proofs.factors.rows_turn.Goals as goal
 
 pub rows_step-requires : goal.rows_step-requires

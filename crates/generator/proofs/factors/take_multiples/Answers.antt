@@ -1,12 +1,8 @@
 use mathlib.Core.Path.{◌≡◌, refl}
-use Prim.Native.Nat.{◌-◌, ◌≤◌}
 use native.Mathlib.Omega.{arith}
 use Rattle.engine.proofs.Laws.{logged, by_logged}
-use Rattle.values.specs.Values.{Sweeping}
 use Rattle.values.proofs.Sweeps.{sweeping_none, sweeping_turn}
-use Rattle.generator.specs.Rows.{total, multiple_at}
-use Rattle.generator.proofs.Turns.{multiple_by, one_more, Sought, sought_none, sought_here, sought_on, sought_all}
-use borrow.Author.Rules.{rules}
+use Rattle.generator.proofs.Turns.{multiple_by, one_more, sought_none, sought_here, sought_on, sought_all}
 use Rattle.generator.proofs.factors.take_multiples.Goals.{then-x-alpha, else-x-alpha}
 use Rattle.generator.proofs.factors.take_multiples.Goals as goal
 
@@ -46,8 +42,9 @@ loop-j-preserved c =
       one_more _ c.loop-j.j c.loop-j.invariant.1 e,
       omega (arith, c.loop-j-test.true),
       elim c.if-x-alpha.branch [
-        then-x-alpha w ↦ rw w.over-is (sought_here c.loop-j-test.true c.loop-j.invariant.3 w.if-x-alpha.true)
-        | else-x-alpha w ↦ rw w.over-is (sought_on c.loop-j.invariant.3 w.if-x-alpha.false) ],
+        | then-x-alpha w ↦ rw w.over-is (sought_here c.loop-j-test.true c.loop-j.invariant.3 w.if-x-alpha.true)
+        | else-x-alpha w ↦ rw w.over-is (sought_on c.loop-j.invariant.3 w.if-x-alpha.false)
+      ],
     )
 
 pub shape_of-a : goal.shape_of-a

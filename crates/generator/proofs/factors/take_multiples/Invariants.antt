@@ -1,15 +1,10 @@
 -- The loop's invariant: the rows behind j hold their multiples, the rest are as they were, and the sum is that of the multiples; the index is that of one of
 -- the rows behind j with the coordinate, or none of them has it.
-use mathlib.Core.Path.{◌≡◌, refl}
+use mathlib.Core.Path.{◌≡◌}
 use Prim.Native.Nat.{◌-◌, ◌≤◌}
-use mathlib.Core.Logic.{⊎_elim}
-use native.Mathlib.Omega.{arith}
-use Rattle.engine.proofs.Laws.{logged, by_logged}
 use Rattle.values.specs.Values.{Sweeping}
-use Rattle.values.proofs.Sweeps.{sweeping_none, sweeping_turn}
 use Rattle.generator.specs.Rows.{total, multiple_at}
-use Rattle.generator.proofs.Turns.{multiple_by, one_more, Sought, sought_none, sought_here, sought_on, sought_all}
-use borrow.Author.Rules.{rules}
+use Rattle.generator.proofs.Turns.{Sought}
 use Rattle.generator.proofs.factors.take_multiples.Given as goal
 
 abbrev pub invariant-loop-j : goal.invariant-loop-j

@@ -1,9 +1,8 @@
-use Prim.Native.Nat.{◌-◌, ◌<◌}
+use Prim.Native.Nat.{◌<◌}
 use mathlib.Core.Path.{sym, ◌∙◌}
 use native.Mathlib.Omega.{arith}
 use lib.ListN.{length}
-use Rattle.generator.proofs.Symbols.{IndexedTo, indexed_none, mark_left, indexed_turn, indexed_all}
-use borrow.Author.Rules.{rules}
+use Rattle.generator.proofs.Symbols.{indexed_none, mark_left, indexed_turn, indexed_all}
 use Rattle.generator.proofs.indices.index_free.Goals as goal
 
 pub loop-s-init : goal.loop-s-init

@@ -1,10 +1,7 @@
 -- The loop's invariant: the indices of the free points before t are in their slots, and s is the slot of the next.
-use Prim.Native.Nat.{◌-◌, ◌<◌}
-use mathlib.Core.Path.{sym, ◌∙◌}
-use native.Mathlib.Omega.{arith}
+use Prim.Native.Nat.{◌-◌}
 use lib.ListN.{length}
-use Rattle.generator.proofs.Symbols.{IndexedTo, indexed_none, mark_left, indexed_turn, indexed_all}
-use borrow.Author.Rules.{rules}
+use Rattle.generator.proofs.Symbols.{IndexedTo}
 use Rattle.generator.proofs.indices.index_free.Given as goal
 
 abbrev pub invariant-loop-s : goal.invariant-loop-s

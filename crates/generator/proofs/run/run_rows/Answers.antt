@@ -1,15 +1,12 @@
 use mathlib.Core.Path.{◌≡◌, refl, sym, ◌∙◌, ap}
-use Prim.Native.Nat.{◌≤◌, ◌-◌}
+use Prim.Native.Nat.{◌-◌}
 use native.Mathlib.Omega.{arith}
-use lib.ListN.{length}
 use Rattle.basics.specs.Lists.{table}
 use Rattle.elliptic.specs.Pair.{after}
-use Rattle.values.specs.Values.{ShownIn, one}
+use Rattle.values.specs.Values.{one}
 use Rattle.values.proofs.Runs.{begins, fits}
-use Rattle.generator.specs.Rows.{Rows, pair_after}
 use Rattle.generator.proofs.Turns.{rows_sized}
 use Rattle.generator.proofs.Progress.{rows_order}
-use borrow.Author.Rules.{rules}
 use Rattle.generator.proofs.run.run_rows.Goals as goal
 
 pub overflow_sub-last : goal.overflow_sub-last

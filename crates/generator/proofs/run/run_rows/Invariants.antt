@@ -1,16 +1,9 @@
 -- The loop's invariant: the arrays show the pair of the first i points at the later ones, and their rows.
-use mathlib.Core.Path.{◌≡◌, refl, sym, ◌∙◌, ap}
+use mathlib.Core.Path.{◌≡◌}
 use Prim.Native.Nat.{◌≤◌, ◌-◌}
-use native.Mathlib.Omega.{arith}
 use lib.ListN.{length}
-use Rattle.basics.specs.Lists.{table}
-use Rattle.elliptic.specs.Pair.{after}
-use Rattle.values.specs.Values.{ShownIn, one}
-use Rattle.values.proofs.Runs.{begins, fits}
+use Rattle.values.specs.Values.{ShownIn}
 use Rattle.generator.specs.Rows.{Rows, pair_after}
-use Rattle.generator.proofs.Turns.{rows_sized}
-use Rattle.generator.proofs.Progress.{rows_order}
-use borrow.Author.Rules.{rules}
 use Rattle.generator.proofs.run.run_rows.Given as goal
 
 abbrev pub invariant-loop-i : goal.invariant-loop-i

@@ -2,7 +2,6 @@
 use native.Mathlib.Omega.{arith}
 use lib.ListN.{length-set}
 use Rattle.engine.proofs.States.{begun}
-use borrow.Author.Rules.{rules}
 use Rattle.interpolation.proofs.interpolate.begin.Goals as goal
 
 pub bounds-u-1 : goal.bounds-u-1

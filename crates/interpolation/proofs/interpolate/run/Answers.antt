@@ -1,16 +1,14 @@
 use mathlib.Core.Path.{◌≡◌, refl, ◌∙◌}
-use Prim.Native.Nat.{◌≤◌, ◌-◌}
+use Prim.Native.Nat.{◌≤◌}
 use native.Mathlib.Omega.{arith}
 use Prim.Native.Nat.{zero-le}
 use native.Mathlib.Numerals.{add-one-le}
 use lib.ListN.{length}
 use Rattle.field.specs.Galois.{galois}
 use Rattle.elliptic.specs.Pair.{after}
-use Rattle.engine.specs.Arrays.{Filled, Long}
-use Rattle.engine.specs.Places.{points_of}
+use Rattle.engine.specs.Arrays.{Long}
 use Rattle.engine.proofs.States.{begins, room, word_room}
 use Rattle.engine.proofs.Runs.{run_more}
-use borrow.Author.Rules.{rules}
 use Rattle.interpolation.proofs.interpolate.run.Goals as goal
 
 pub begin-requires : goal.begin-requires
@@ -19,17 +17,16 @@ begin-requires c =
 
 pub loop-i-init : goal.loop-i-init
 unfolding after
-loop-i-init c =
-    (
-      refl,
-      refl,
-      refl,
-      omega arith,
-      record {
-        pair = begins c.first_sizes.ensures.0 c.first_sizes.ensures.1 c.first_sizes.ensures.2 (omega (arith, c.begin.auto.l, c.requires.runs.1.0)) (omega (arith, c.begin.auto.u, c.requires.runs.1.1)) c.begin.ensures.0 c.begin.ensures.1;
-        word = record { within = zero-le; first = refl };
-      },
-    )
+loop-i-init c = (
+  refl,
+  refl,
+  refl,
+  omega arith,
+  record {
+    pair = begins c.first_sizes.ensures.0 c.first_sizes.ensures.1 c.first_sizes.ensures.2 (omega (arith, c.begin.auto.l, c.requires.runs.1.0)) (omega (arith, c.begin.auto.u, c.requires.runs.1.1)) c.begin.ensures.0 c.begin.ensures.1;
+    word = record { within = zero-le; first = refl };
+  },
+)
 
 pub chosen_place-place-requires : goal.chosen_place-place-requires
 chosen_place-place-requires c =

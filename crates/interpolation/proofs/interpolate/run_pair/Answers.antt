@@ -1,16 +1,12 @@
 use mathlib.Core.Path.{◌≡◌, refl, ◌∙◌}
-use Prim.Native.Nat.{◌≤◌, ◌-◌}
 use native.Mathlib.Omega.{arith}
 use native.Mathlib.Numerals.{add-one-le}
 use mathlib.Core.List.{[]}
-use lib.ListN.{length}
 use Rattle.field.specs.Galois.{galois}
 use Rattle.elliptic.specs.Pair.{after}
-use Rattle.engine.specs.Arrays.{Pair, Long}
-use Rattle.engine.specs.Places.{points_of}
+use Rattle.engine.specs.Arrays.{Long}
 use Rattle.engine.proofs.States.{begins, room}
 use Rattle.engine.proofs.Runs.{run_pair_more}
-use borrow.Author.Rules.{rules}
 use Rattle.interpolation.proofs.interpolate.run_pair.Goals as goal
 
 pub begin-requires : goal.begin-requires
@@ -45,8 +41,7 @@ overflow_add-i c =
 
 pub loop-i-preserved : goal.loop-i-preserved
 loop-i-preserved c =
-    let point = rw c.chosen_place-place.ensures at c.point_at-p.ensures in
-    (
+    let point = rw c.chosen_place-place.ensures at c.point_at-p.ensures in (
       c.pair_turn-n.auto.l ∙ c.loop-i.invariant.0,
       c.pair_turn-n.auto.u ∙ c.loop-i.invariant.1,
       add-one-le c.loop-i-test.true,

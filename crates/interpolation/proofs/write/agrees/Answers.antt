@@ -1,15 +1,11 @@
-use mathlib.Core.Path.{◌≡◌, refl, sym, ◌∙◌}
-use Prim.Native.Nat.{◌-◌}
+use mathlib.Core.Path.{refl, sym, ◌∙◌}
 use native.Mathlib.Omega.{arith}
 use mathlib.Core.List.{map}
-use lib.ListN.{length, drop}
-use Rattle.basics.specs.Lists.{same}
 use Rattle.basics.proofs.Loops.{same_fails, same_passes, same_ends}
 use Rattle.field.specs.Galois.{galois}
 use Rattle.elliptic.specs.Pair.{evaluate}
 use Rattle.engine.specs.Places.{points_of}
 use Rattle.engine.proofs.Runs.{value_at_lem, values_length}
-use borrow.Author.Rules.{rules}
 use Rattle.interpolation.proofs.write.agrees.Goals as goal
 
 pub loop-i-init : goal.loop-i-init

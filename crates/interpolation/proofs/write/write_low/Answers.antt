@@ -1,5 +1,4 @@
 -- L is read where it stands.
-use borrow.Author.Rules.{rules}
 use Rattle.interpolation.proofs.write.write_low.Goals as goal
 
 pub returns-then-turned : goal.returns-then-turned

@@ -1,6 +1,5 @@
 -- The loop goes over the dimensions.
 use Prim.Native.Nat.{◌-◌, ◌≤◌}
-use borrow.Author.Rules.{rules}
 use Rattle.known_cases.proofs.choices.all_a.Given as goal
 
 abbrev pub invariant-loop-k : goal.invariant-loop-k

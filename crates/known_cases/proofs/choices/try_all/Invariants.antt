@@ -1,6 +1,5 @@
 -- The loop goes over all masks.
 use Prim.Native.Nat.{◌-◌}
-use borrow.Author.Rules.{rules}
 use Rattle.known_cases.proofs.choices.try_all.Given as goal
 
 abbrev pub invariant-loop-mask : goal.invariant-loop-mask

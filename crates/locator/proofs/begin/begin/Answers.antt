@@ -1,6 +1,5 @@
 -- By the law of the first rows.
 use mathlib.Core.Path.{sym, ◌∙◌}
-use borrow.Author.Rules.{rules}
 use Rattle.locator.proofs.First.{begun}
 use Rattle.locator.proofs.begin.begin.Goals as goal
 

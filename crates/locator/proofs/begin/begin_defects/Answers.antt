@@ -1,7 +1,6 @@
 -- The parts of the arrays behind their heads are lent.
 use native.Mathlib.Omega.{arith}
 use lib.ListN.{length}
-use borrow.Author.Rules.{rules}
 use Rattle.field.specs.Products.{product_at}
 use Rattle.values.specs.Values.{one}
 use Rattle.locator.specs.Arrays.{head}

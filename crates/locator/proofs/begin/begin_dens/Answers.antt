@@ -1,7 +1,6 @@
 -- By the law of the stores.
 use native.Mathlib.Omega.{arith}
 use lib.ListN.{length-set}
-use borrow.Author.Rules.{rules}
 use Rattle.locator.proofs.First.{dens}
 use Rattle.locator.proofs.begin.begin_dens.Goals as goal
 

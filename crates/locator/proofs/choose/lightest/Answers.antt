@@ -1,6 +1,5 @@
 -- From the last row to the first.
 use mathlib.Core.Path.{◌∙◌, ap}
-use borrow.Author.Rules.{rules}
 use Rattle.locator.specs.Arrays.{lighter_of}
 use Rattle.locator.proofs.choose.lightest.Goals as goal
 

@@ -1,6 +1,5 @@
 -- The row is widened, and the multiple of p added to it.
 use mathlib.Core.Path.{sym}
-use borrow.Author.Rules.{rules}
 use lib.Seq.{length-take-le}
 use Rattle.locator.proofs.Dens.{mixes}
 use Rattle.locator.proofs.den.mix_den.Goals as goal

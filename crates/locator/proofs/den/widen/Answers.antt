@@ -1,6 +1,5 @@
 -- The part that is cleared stands behind the first s coefficients.
 use native.Mathlib.Omega.{arith}
-use borrow.Author.Rules.{rules}
 use borrow.Author.Tests.{lt-ltb, le-ltb}
 use Rattle.locator.proofs.Dens.{widened, widened_none}
 use Rattle.locator.proofs.den.widen.Goals as goal

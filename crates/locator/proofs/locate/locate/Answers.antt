@@ -1,6 +1,4 @@
 -- Begun, run, and read: each stage ensures what the next requires.
-use native.Mathlib.Omega.{arith}
-use borrow.Author.Rules.{rules}
 use Rattle.locator.proofs.locate.locate.Goals as goal
 
 pub run-hs-requires : goal.run-hs-requires

@@ -4,7 +4,6 @@ use mathlib.Core.Path.{◌≡◌, sym, ◌∙◌, ap}
 use native.Mathlib.Omega.{arith}
 use lib.ListN.{length, replicate}
 use lib.Seq.{length-take-le}
-use borrow.Author.Rules.{rules}
 use Rattle.basics.proofs.Lists.{front}
 use Rattle.locator.specs.Arrays.{Pivot, lightest_of, values_in}
 use Rattle.locator.proofs.Locating.{located_a, located_b, located_c, located_d, located_none}

@@ -1,13 +1,11 @@
 -- The loop's invariant: the first i values are written, and the rest of out is as it was.
-use mathlib.Core.Path.{◌≡◌, refl}
+use mathlib.Core.Path.{◌≡◌}
 use Prim.Native.Nat.{◌≤◌, ◌-◌}
-use native.Mathlib.Omega.{arith}
-use lib.ListN.{length, get_or, length-set}
-use Rattle.basics.proofs.Loops.{filled, filled_turn, filled_front}
+use lib.ListN.{length, get_or}
+use Rattle.basics.proofs.Loops.{filled}
 use Rattle.field.specs.Galois.{galois}
 use Rattle.elliptic.specs.Curve.{point}
 use Rattle.elliptic.specs.Pair.{evaluate}
-use borrow.Author.Rules.{rules}
 use Rattle.locator.proofs.locate.write_values.Given as goal
 
 abbrev pub invariant-loop-i : goal.invariant-loop-i

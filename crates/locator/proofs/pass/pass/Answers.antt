@@ -1,9 +1,7 @@
-use Prim.Native.Nat.{◌-◌, ◌<◌}
+use Prim.Native.Nat.{◌<◌}
 use native.Mathlib.Omega.{arith}
 use lib.ListN.{length}
-use borrow.Author.Rules.{rules}
 use Rattle.engine.proofs.Laws.{logged, by_logged}
-use Rattle.values.specs.Values.{Sweeping, raised_at, gained_at}
 use Rattle.values.proofs.Sweeps.{sweeping_none, sweeping_turn, sweeping_all, raised_by, gained_by}
 use Rattle.locator.proofs.pass.pass.Goals as goal
 
@@ -103,10 +101,9 @@ pub shape_of-c : goal.shape_of-c
 shape_of-c c = c.loop-i.invariant.3.size
 
 pub returns : goal.returns
-returns c =
-    (
-      sweeping_all _ _ _ (omega (arith, c.loop-i-test.false, c.requires.p_len.0)) c.loop-i.invariant.0,
-      sweeping_all _ _ _ (omega (arith, c.loop-i-test.false, c.requires.p_len.1)) c.loop-i.invariant.1,
-      sweeping_all _ _ _ (omega (arith, c.loop-i-test.false, c.requires.p_len.2)) c.loop-i.invariant.2,
-      sweeping_all _ _ _ (omega (arith, c.loop-i-test.false, c.requires.p_len.3)) c.loop-i.invariant.3,
-    )
+returns c = (
+  sweeping_all _ _ _ (omega (arith, c.loop-i-test.false, c.requires.p_len.0)) c.loop-i.invariant.0,
+  sweeping_all _ _ _ (omega (arith, c.loop-i-test.false, c.requires.p_len.1)) c.loop-i.invariant.1,
+  sweeping_all _ _ _ (omega (arith, c.loop-i-test.false, c.requires.p_len.2)) c.loop-i.invariant.2,
+  sweeping_all _ _ _ (omega (arith, c.loop-i-test.false, c.requires.p_len.3)) c.loop-i.invariant.3,
+)

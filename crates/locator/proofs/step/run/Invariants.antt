@@ -1,10 +1,6 @@
 -- Place by place: the rows after i places, up to the last.
 use Prim.Native.Nat.{◌-◌, ◌≤◌}
-use mathlib.Core.Path.{◌≡◌}
-use native.Mathlib.Numerals.{add-one}
-use native.Mathlib.Omega.{arith}
 use lib.ListN.{length}
-use borrow.Author.Rules.{rules}
 use Rattle.locator.specs.Arrays.{After}
 use Rattle.locator.proofs.step.run.Given as goal
 

@@ -3,7 +3,6 @@ use Prim.Native.Nat.{ℕ, ◌+◌}
 use mathlib.Core.Path.{◌≡◌, refl, sym, ◌∙◌, ap, subst}
 use mathlib.Core.List.{List}
 use lib.ListN.{get_or}
-use borrow.Author.Rules.{rules}
 use borrow.Author.Tests.{ne_eqb}
 use Rattle.locator.specs.Arrays.{Heads, Layout, Pivot, head, TurnRoom, Turns, lightest_of, exchanged_at}
 use Rattle.locator.proofs.Stepping.{room_a, room_b, room_c, room_d, next_a, next_b, next_c, next_d, next_none}
@@ -21,7 +20,7 @@ room_of : {i : ℕ} {shape : Layout} {xs : List ℕ} {hs first : Heads} {p a b c
 room_of {i = i} {shape = shape} {xs = xs} {p = p} {a = a} {b = b} {c = c} e r = subst (λ hs. TurnRoom shape i xs hs p a b c) (sym e) r
 
 turns-of : (m : ℕ) {i : ℕ} {shape : Layout} {xs : List ℕ} {hs first rs : Heads} {p a b c p' a' b' c' : List ℕ}
- → first ≡ hs → Turns m shape xs i first p a b c rs p' a' b' c' → Turns m shape xs i hs p a b c rs p' a' b' c'
+    → first ≡ hs → Turns m shape xs i first p a b c rs p' a' b' c' → Turns m shape xs i hs p a b c rs p' a' b' c'
 turns-of m {i = i} {shape = shape} {xs = xs} {rs = rs} {p = p} {a = a} {b = b} {c = c} {p' = p'} {a' = a'} {b' = b'} {c' = c'} e r =
     subst (λ hs. Turns m shape xs i hs p a b c rs p' a' b' c') e r
 

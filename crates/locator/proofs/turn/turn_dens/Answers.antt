@@ -2,7 +2,6 @@
 use Prim.Native.Nat.{◌+◌}
 use mathlib.Core.Path.{refl}
 use native.Mathlib.Omega.{arith}
-use borrow.Author.Rules.{rules}
 use Rattle.locator.proofs.Dens.{shorter_left}
 use Rattle.locator.proofs.turn.turn_dens.Goals as goal
 
@@ -18,9 +17,9 @@ overflow_add-result c = record { fits = omega (arith, c.requires.sizes_fit.key_s
 
 pub returns : goal.returns
 returns c = record {
-      keys = (refl, refl, refl, refl);
-      p_lifts = c.lift_den-s.ensures;
-      a_mixes = c.mix_den-sa.ensures;
-      b_mixes = c.mix_den-sb.ensures;
-      c_mixes = c.mix_den-sc.ensures;
-    }
+  keys = (refl, refl, refl, refl);
+  p_lifts = c.lift_den-s.ensures;
+  a_mixes = c.mix_den-sa.ensures;
+  b_mixes = c.mix_den-sb.ensures;
+  c_mixes = c.mix_den-sc.ensures;
+}

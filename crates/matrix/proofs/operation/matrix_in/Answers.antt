@@ -8,7 +8,6 @@ use Rattle.solving.proofs.Link.{accepted}
 use Rattle.values.proofs.Runs.{fits}
 use Rattle.solving.proofs.Arranged.{places_in_lem, apart}
 use Rattle.matrix.proofs.Theory.{arranged_first, decides, completes}
-use borrow.Author.Rules.{rules}
 use Rattle.matrix.proofs.operation.matrix_in.Goals as goal
 
 pub overflow_sub-last : goal.overflow_sub-last
@@ -26,16 +25,21 @@ returns-then-zero_chosen c =
 pub rows_turn-requires : goal.rows_turn-requires
 rows_turn-requires c =
     let a = accepted c.requires.placed.0 in
-    record { tables = c.requires.tables; fits = (
+    record {
+      tables = c.requires.tables;
+      fits = (
         fits (c.begin_rows-z.auto.l ∙ c.requires.placed.2.lows ∙ sym c.begin_rows-z.ensures.firsts.size) (c.begin_rows-z.auto.u ∙ c.requires.placed.2.highs ∙ sym c.begin_rows-z.ensures.firsts.size) ((arranged_first c.requires.placed.0 c.requires.placed.1 c.begin_rows-z.ensures.firsts c.begin_rows-z.ensures.seconds).small (c.args.p.k - 1) (omega (arith, a.k_least))) c.begin_rows-z.ensures.shown,
         record { points = omega (arith, c.begin_rows-z.ensures.firsts.size, a.k_least, a.k_most); firsts = omega (arith, c.begin_rows-z.auto.a, c.requires.placed.2.firsts, a.k_least, a.k_most); seconds = omega (arith, c.begin_rows-z.auto.b, c.requires.placed.2.seconds, a.k_least, a.k_most) },
         omega (arith, c.begin_rows-z.ensures.firsts.size, a.n_most),
-      ) }
+      );
+    }
 
 pub write_rows-requires : goal.write_rows-requires
 write_rows-requires c =
     let a = accepted c.requires.placed.0 in
-    record { tables = c.requires.tables; written = (
+    record {
+      tables = c.requires.tables;
+      written = (
         record {
           points = omega (arith, c.begin_rows-z.ensures.firsts.size, a.k_most);
           lows = c.rows_turn.auto.l ∙ c.begin_rows-z.auto.l ∙ c.requires.placed.2.lows ∙ sym c.begin_rows-z.ensures.firsts.size;
@@ -49,7 +53,8 @@ write_rows-requires c =
           room = rw c.begin_rows-z.ensures.firsts.size c.requires.placed.3;
         },
         c.requires.placed.4,
-      ) }
+      );
+    }
 
 pub shape_of-px : goal.shape_of-px
 shape_of-px c = c.begin_rows-z.auto.px

@@ -6,7 +6,6 @@ use Rattle.basics.proofs.Outcomes.{pass, refuse}
 use Rattle.codewords.proofs.Accepted.{accepted_done}
 use Rattle.solving.specs.Tests.{room}
 use Rattle.matrix.proofs.Joined.{rows_small}
-use borrow.Author.Rules.{rules}
 use Rattle.matrix.proofs.operation.matrix_tested.Goals as goal
 
 pub returns-then-places-p : goal.returns-then-places-p

@@ -7,7 +7,6 @@ use Rattle.solving.proofs.Link.{accepted}
 use Rattle.arrangement.specs.Arranged.{free_at}
 use Rattle.solving.proofs.Arranged.{places_in_lem, apart, arranged_coordinates}
 use Rattle.matrix.proofs.Theory.{arranged_first, able}
-use borrow.Author.Rules.{rules}
 use Rattle.matrix.proofs.write.begin_rows.Goals as goal
 
 pub mark-requires : goal.mark-requires
@@ -25,13 +24,17 @@ arrange-requires-2 c =
 pub run_rows-requires : goal.run_rows-requires
 run_rows-requires c =
     let a = accepted c.requires.placed.0 in
-    record { tables = c.requires.tables; coordinates = (
-          arranged_coordinates c.requires.placed.0 c.arrange.ensures c.arrange-2.ensures,
-          c.requires.placed.2.lows ∙ sym c.arrange.ensures.size,
-          record { points = omega (arith, c.arrange.ensures.size, a.k_most); firsts = omega (arith, c.mark.auto.free, c.requires.placed.2.firsts, a.k_most); seconds = omega (arith, c.requires.placed.2.seconds, a.k_most) },
-          a.k_least,
-          omega (arith, c.arrange.ensures.size, a.n_most),
-        ); runs_first = (arranged_first c.requires.placed.0 c.requires.placed.1 c.arrange.ensures c.arrange-2.ensures, able c.requires.placed.0 c.requires.placed.1 c.arrange.ensures c.arrange-2.ensures) }
+    record {
+      tables = c.requires.tables;
+      coordinates = (
+        arranged_coordinates c.requires.placed.0 c.arrange.ensures c.arrange-2.ensures,
+        c.requires.placed.2.lows ∙ sym c.arrange.ensures.size,
+        record { points = omega (arith, c.arrange.ensures.size, a.k_most); firsts = omega (arith, c.mark.auto.free, c.requires.placed.2.firsts, a.k_most); seconds = omega (arith, c.requires.placed.2.seconds, a.k_most) },
+        a.k_least,
+        omega (arith, c.arrange.ensures.size, a.n_most),
+      );
+      runs_first = (arranged_first c.requires.placed.0 c.requires.placed.1 c.arrange.ensures c.arrange-2.ensures, able c.requires.placed.0 c.requires.placed.1 c.arrange.ensures c.arrange-2.ensures);
+    }
 
 pub returns : goal.returns
 returns c =

@@ -1,10 +1,10 @@
 use mathlib.Core.Path.{◌≡◌, refl, ◌∙◌}
-use Prim.Native.Nat.{◌+◌, ◌*◌, ◌-◌, ◌≤◌}
+use Prim.Native.Nat.{◌+◌, ◌*◌, ◌≤◌}
 use native.Mathlib.Omega.{arith}
 use lib.ListN.{length}
 use Rattle.generator.proofs.Turns.{slots_of}
 use Rattle.matrix.proofs.Joined.{row_room, lent_size, returned_size}
-use Rattle.matrix.proofs.Marks.{Completing, completing_none, completing_turn}
+use Rattle.matrix.proofs.Marks.{completing_none, completing_turn}
 use Rattle.matrix.proofs.write.complete_rows.Goals as goal
 
 pub loop-i-init : goal.loop-i-init

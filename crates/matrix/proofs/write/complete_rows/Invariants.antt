@@ -1,11 +1,8 @@
 -- The loop's invariant: the first i rows are completed, the others as they were.
-use mathlib.Core.Path.{◌≡◌, refl, ◌∙◌}
-use Prim.Native.Nat.{◌+◌, ◌*◌, ◌-◌, ◌≤◌}
-use native.Mathlib.Omega.{arith}
+use mathlib.Core.Path.{◌≡◌}
+use Prim.Native.Nat.{◌-◌, ◌≤◌}
 use lib.ListN.{length}
-use Rattle.generator.proofs.Turns.{slots_of}
-use Rattle.matrix.proofs.Joined.{row_room, lent_size, returned_size}
-use Rattle.matrix.proofs.Marks.{Completing, completing_none, completing_turn}
+use Rattle.matrix.proofs.Marks.{Completing}
 use Rattle.matrix.proofs.write.complete_rows.Given as goal
 
 abbrev pub invariant-loop-i : goal.invariant-loop-i

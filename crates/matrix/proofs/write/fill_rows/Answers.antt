@@ -9,7 +9,6 @@ use Rattle.generator.proofs.Turns.{slots_of}
 use Rattle.matrix.specs.Given.{frees, row_at}
 use Rattle.matrix.proofs.Joined.{parts_all}
 use Rattle.matrix.proofs.Marks.{marked, indexed_as, rows_kept, row_complete}
-use borrow.Author.Rules.{rules}
 use Rattle.matrix.proofs.write.fill_rows.Goals as goal
 
 pub index_rest-requires : goal.index_rest-requires
@@ -21,11 +20,11 @@ sums-size c = c.fill_ones.auto.out ∙ c.index_rest.auto.marks ∙ c.requires.wr
 
 -- the indices of the free points
 indexed : (c : goal.After-part_rows-arg-2-1) →
- Indexed c.args.k (length c.args.px.now) (frees c.args.places.now c.args.px.now) c.index_rest.new.a c.index_rest.new.b
+    Indexed c.args.k (length c.args.px.now) (frees c.args.places.now c.args.px.now) c.index_rest.new.a c.index_rest.new.b
 indexed c = indexed_as c.args.k c.args.places.now c.args.px.now c.args.sums.now _ _ c.requires.written.1 c.index_rest.ensures.indexed
 
 slots : (c : goal.After-part_rows-arg-2-1) →
- Slots c.args.k c.args.px.now c.index_rest.new.a c.index_rest.new.b c.fill_ones.new.out c.args.px.now
+    Slots c.args.k c.args.px.now c.index_rest.new.a c.index_rest.new.b c.fill_ones.new.out c.args.px.now
 slots c =
     record {
       points = c.requires.written.0.points;
@@ -47,11 +46,11 @@ sums-size_2 c = c.fill_ones.auto.out ∙ c.index_rest.auto.marks ∙ c.requires.
 
 -- the indices of the free points
 indexed_2 : (c : goal.After-complete_rows-arg-1) →
- Indexed c.args.k (length c.args.px.now) (frees c.args.places.now c.args.px.now) c.index_rest.new.a c.index_rest.new.b
+    Indexed c.args.k (length c.args.px.now) (frees c.args.places.now c.args.px.now) c.index_rest.new.a c.index_rest.new.b
 indexed_2 c = indexed_as c.args.k c.args.places.now c.args.px.now c.args.sums.now _ _ c.requires.written.1 c.index_rest.ensures.indexed
 
 slots_2 : (c : goal.After-complete_rows-arg-1) →
- Slots c.args.k c.args.px.now c.index_rest.new.a c.index_rest.new.b c.fill_ones.new.out c.args.px.now
+    Slots c.args.k c.args.px.now c.index_rest.new.a c.index_rest.new.b c.fill_ones.new.out c.args.px.now
 slots_2 c =
     record {
       points = c.requires.written.0.points;
@@ -69,7 +68,7 @@ complete_rows-requires c =
 
 -- the indices of the free points
 indexed_3 : (c : goal.After-slice_known-12-1) →
- Indexed c.args.k (length c.args.px.now) (frees c.args.places.now c.args.px.now) c.index_rest.new.a c.index_rest.new.b
+    Indexed c.args.k (length c.args.px.now) (frees c.args.places.now c.args.px.now) c.index_rest.new.a c.index_rest.new.b
 indexed_3 c = indexed_as c.args.k c.args.places.now c.args.px.now c.args.sums.now _ _ c.requires.written.1 c.index_rest.ensures.indexed
 
 pub returns : goal.returns

@@ -4,7 +4,6 @@ use native.Mathlib.Omega.{arith}
 use lib.ListN.{length}
 use Rattle.basics.proofs.Lists.{length_table}
 use Rattle.arrangement.specs.Arranged.{free_at}
-use borrow.Author.Rules.{rules}
 use Rattle.matrix.proofs.write.index_rest.Goals as goal
 
 pub mark-requires : goal.mark-requires

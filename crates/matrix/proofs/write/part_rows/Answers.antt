@@ -1,9 +1,8 @@
 use mathlib.Core.Path.{◌≡◌, refl, ◌∙◌}
-use Prim.Native.Nat.{◌+◌, ◌*◌, ◌-◌, ◌≤◌}
+use Prim.Native.Nat.{◌+◌, ◌*◌, ◌≤◌}
 use native.Mathlib.Omega.{arith}
 use lib.ListN.{length}
 use Rattle.generator.proofs.Turns.{slots_of}
-use Rattle.matrix.specs.Given.{Parts}
 use Rattle.matrix.proofs.Joined.{row_room, lent_part, lent_size, returned_size}
 use Rattle.matrix.proofs.Marks.{parts_none, parts_turn}
 use Rattle.matrix.proofs.write.part_rows.Goals as goal

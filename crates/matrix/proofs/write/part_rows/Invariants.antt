@@ -1,12 +1,8 @@
 -- The loop's invariant: the parts of the first i rows stand in the buffer, and are added to the sums.
-use mathlib.Core.Path.{◌≡◌, refl, ◌∙◌}
-use Prim.Native.Nat.{◌+◌, ◌*◌, ◌-◌, ◌≤◌}
-use native.Mathlib.Omega.{arith}
+use mathlib.Core.Path.{◌≡◌}
+use Prim.Native.Nat.{◌-◌, ◌≤◌}
 use lib.ListN.{length}
-use Rattle.generator.proofs.Turns.{slots_of}
 use Rattle.matrix.specs.Given.{Parts}
-use Rattle.matrix.proofs.Joined.{row_room, lent_part, lent_size, returned_size}
-use Rattle.matrix.proofs.Marks.{parts_none, parts_turn}
 use Rattle.matrix.proofs.write.part_rows.Given as goal
 
 abbrev pub invariant-loop-i : goal.invariant-loop-i

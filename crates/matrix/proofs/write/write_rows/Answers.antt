@@ -7,7 +7,6 @@ use lib.ListN.{length, replicate}
 use lib.Seq.{length-take-le}
 use Rattle.solving.specs.Tests.{room}
 use Rattle.matrix.proofs.Marks.{written_drop}
-use borrow.Author.Rules.{rules}
 use Rattle.matrix.proofs.write.write_rows.Goals as goal
 
 -- there is a byte for each point
@@ -29,9 +28,8 @@ fits_3 : (c : goal.After-slice_known-9-1) → length c.args.px.now ≤ length c.
 fits_3 c = omega (arith, c.requires.written.0.most, c.requires.written.1)
 
 pub returns : goal.returns
-returns c =
-    (
-      c.fill_rows.ensures,
-      c.clear_room.ensures
-          ∙ ap (λ z. replicate room 0 ++ z) (written_drop (length c.args.px.now) room c.args.work.now (fits_3 c) (omega (arith, c.requires.written.0.most)) c.fill_rows.new.sums c.fill_rows.auto.sums),
-    )
+returns c = (
+  c.fill_rows.ensures,
+  c.clear_room.ensures
+      ∙ ap (λ z. replicate room 0 ++ z) (written_drop (length c.args.px.now) room c.args.work.now (fits_3 c) (omega (arith, c.requires.written.0.most)) c.fill_rows.new.sums c.fill_rows.auto.sums),
+)

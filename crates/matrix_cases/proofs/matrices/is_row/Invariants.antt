@@ -1,7 +1,6 @@
 -- The loop ends, and stays within the word.
 use Prim.Native.Nat.{◌-◌}
 use lib.ListN.{length}
-use borrow.Author.Rules.{rules}
 use Rattle.matrix_cases.proofs.matrices.is_row.Given as goal
 
 abbrev pub invariant-loop-i : goal.invariant-loop-i

@@ -3,7 +3,6 @@ use mathlib.Core.Path.{sym, ◌∙◌}
 use lib.Seq.{length-take-le}
 use native.Mathlib.Omega.{arith}
 use Rattle.trials.proofs.Parts.{part}
-use borrow.Author.Rules.{rules}
 use Rattle.matrix_cases.proofs.matrices.try_matrix.Goals as goal
 
 pub slice_bounds-compare_matrix-end : goal.slice_bounds-compare_matrix-end

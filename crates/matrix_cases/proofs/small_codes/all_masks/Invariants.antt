@@ -1,6 +1,5 @@
 -- The loop goes over all masks.
 use Prim.Native.Nat.{◌-◌}
-use borrow.Author.Rules.{rules}
 use Rattle.matrix_cases.proofs.small_codes.all_masks.Given as goal
 
 abbrev pub invariant-loop-mask : goal.invariant-loop-mask

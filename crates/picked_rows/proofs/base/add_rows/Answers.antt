@@ -1,4 +1,4 @@
-use Prim.Native.Nat.{◌-◌, ◌≤◌}
+use Prim.Native.Nat.{◌≤◌}
 use mathlib.Core.Path.{◌≡◌, refl, ◌∙◌, ap}
 use native.Mathlib.Omega.{arith}
 use lib.ListN.{length, get_or}
@@ -6,7 +6,7 @@ use Rattle.codewords.specs.Code.{code_of}
 use Rattle.solving.specs.Given.{Works}
 use Rattle.solving.proofs.Link.{accepted}
 use Rattle.solving.proofs.Arranged.{places_in_lem}
-use Rattle.picked_rows.proofs.Difference.{Added, given_works, added_none, added_row, added_all}
+use Rattle.picked_rows.proofs.Difference.{given_works, added_none, added_row, added_all}
 use Rattle.picked_rows.proofs.base.add_rows.Goals as goal
 
 pub loop-i-init : goal.loop-i-init
@@ -26,7 +26,7 @@ works_2 c = given_works c.requires.given.0
 
 -- the chosen place is one
 chosen : (c : goal.After-chosen_place-place) →
- (1 ≤ c.chosen_place-place.result.0) × (c.chosen_place-place.result.0 ≤ length c.args.xs.now)
+    (1 ≤ c.chosen_place-place.result.0) × (c.chosen_place-place.result.0 ≤ length c.args.xs.now)
 chosen c = let w = works_2 c in
     let own = places_in_lem w.placed c.loop-i.i (omega (arith, c.loop-i-test.true, w.full)) in
     (omega (arith, c.chosen_place-place.ensures, own.0), omega (arith, c.chosen_place-place.ensures, own.1))
@@ -40,7 +40,7 @@ works_3 c = given_works c.requires.given.0
 
 -- the chosen place is one
 chosen_2 : (c : goal.After-shared_slice_known-in-loop-i-1-unread) →
- (1 ≤ c.chosen_place-place.result.0) × (c.chosen_place-place.result.0 ≤ length c.args.xs.now)
+    (1 ≤ c.chosen_place-place.result.0) × (c.chosen_place-place.result.0 ≤ length c.args.xs.now)
 chosen_2 c = let w = works_3 c in
     let own = places_in_lem w.placed c.loop-i.i (omega (arith, c.loop-i-test.true, w.full)) in
     (omega (arith, c.chosen_place-place.ensures, own.0), omega (arith, c.chosen_place-place.ensures, own.1))
@@ -77,14 +77,13 @@ pub loop-i-smaller : goal.loop-i-smaller
 loop-i-smaller c = omega (arith, c.loop-i-test.true)
 
 pub loop-i-preserved : goal.loop-i-preserved
-loop-i-preserved c =
-    (
-      omega (arith, c.loop-i-test.true),
-      c.picked_row.auto.out ∙ c.loop-i.invariant.1,
-      c.add_scaled.auto.f ∙ c.loop-i.invariant.2,
-      added_row c.requires.given.0 c.loop-i.i c.loop-i-test.true c.chosen_place-place.ensures (ap (λ x. get_or c.args.received.now x 0) c.index_of.ensures)
-          c.picked_row.ensures c.add_scaled.ensures c.loop-i.invariant.3,
-    )
+loop-i-preserved c = (
+  omega (arith, c.loop-i-test.true),
+  c.picked_row.auto.out ∙ c.loop-i.invariant.1,
+  c.add_scaled.auto.f ∙ c.loop-i.invariant.2,
+  added_row c.requires.given.0 c.loop-i.i c.loop-i-test.true c.chosen_place-place.ensures (ap (λ x. get_or c.args.received.now x 0) c.index_of.ensures)
+      c.picked_row.ensures c.add_scaled.ensures c.loop-i.invariant.3,
+)
 
 pub shape_of-row : goal.shape_of-row
 shape_of-row c = c.loop-i.invariant.1

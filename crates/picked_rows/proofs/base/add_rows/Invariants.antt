@@ -1,13 +1,9 @@
 -- The loop's invariant: the difference is that from the codeword with the first i symbols.
 use Prim.Native.Nat.{◌-◌, ◌≤◌}
-use mathlib.Core.Path.{◌≡◌, refl, ◌∙◌, ap}
-use native.Mathlib.Omega.{arith}
-use lib.ListN.{length, get_or}
+use mathlib.Core.Path.{◌≡◌}
+use lib.ListN.{length}
 use Rattle.codewords.specs.Code.{code_of}
-use Rattle.solving.specs.Given.{Works}
-use Rattle.solving.proofs.Link.{accepted}
-use Rattle.solving.proofs.Arranged.{places_in_lem}
-use Rattle.picked_rows.proofs.Difference.{Added, given_works, added_none, added_row, added_all}
+use Rattle.picked_rows.proofs.Difference.{Added}
 use Rattle.picked_rows.proofs.base.add_rows.Given as goal
 
 abbrev pub invariant-loop-i : goal.invariant-loop-i

@@ -7,7 +7,6 @@ use lib.Seq.{length-take-le}
 use Rattle.basics.proofs.Lists.{copied}
 use Rattle.solving.proofs.Link.{accepted}
 use Rattle.picked_rows.proofs.Difference.{given_works}
-use borrow.Author.Rules.{rules}
 use Rattle.picked_rows.proofs.base.find_difference.Goals as goal
 
 pub copy-requires : goal.copy-requires

@@ -5,7 +5,6 @@ use lib.ListN.{length}
 use Rattle.solving.proofs.Link.{accepted}
 use Rattle.picked_rows.proofs.Stored.{then_spared}
 use Rattle.picked_rows.proofs.Difference.{given_works, put_difference}
-use borrow.Author.Rules.{rules}
 use Rattle.picked_rows.proofs.base.prepare.Goals as goal
 
 pub begin-requires : goal.begin-requires
@@ -29,7 +28,7 @@ summed-size_2 c =
     c.store_sums.auto.sums ∙ c.begin.auto.b ∙ c.requires.given.1
 
 found-size : (c : goal.After-store-arg-1) →
- length c.find_difference.new.difference ≡ length c.args.xs.now
+    length c.find_difference.new.difference ≡ length c.args.xs.now
 found-size c = c.find_difference.auto.difference ∙ summed-size_2 c
 
 pub store-requires : goal.store-requires
@@ -43,7 +42,7 @@ summed-size_3 c =
     c.store_sums.auto.sums ∙ c.begin.auto.b ∙ c.requires.given.1
 
 found-size_2 : (c : goal.After-slice_known-8-1) →
- length c.find_difference.new.difference ≡ length c.args.xs.now
+    length c.find_difference.new.difference ≡ length c.args.xs.now
 found-size_2 c = c.find_difference.auto.difference ∙ summed-size_3 c
 
 pub returns : goal.returns

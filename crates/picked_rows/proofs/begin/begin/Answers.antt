@@ -2,7 +2,6 @@
 use mathlib.Core.Path.{refl, sym}
 use lib.Seq.{length-take-le}
 use Rattle.solving.proofs.Link.{accepted}
-use borrow.Author.Rules.{rules}
 use Rattle.picked_rows.proofs.begin.begin.Goals as goal
 
 pub slice_bounds-l-end : goal.slice_bounds-l-end

@@ -8,7 +8,6 @@ use lib.Seq.{length-take-le}
 use Rattle.solving.proofs.Link.{accepted}
 use Rattle.solving.proofs.Arranged.{places_in_lem, apart}
 use Rattle.picked_rows.proofs.Stored.{back_size, front_spared, stored}
-use borrow.Author.Rules.{rules}
 use Rattle.picked_rows.proofs.begin.begin_in.Goals as goal
 
 pub slice_bounds-factor_rows-end-2 : goal.slice_bounds-factor_rows-end-2
@@ -28,20 +27,19 @@ room_2 c = omega (arith, c.requires.works.2)
 
 -- the working space when they are back
 size : (c : goal.After-index_points-arg-3-1) →
- length (c.factor_rows.new.px ++ drop (length c.args.xs.now) c.args.work.now) ≡ length c.args.work.now
+    length (c.factor_rows.new.px ++ drop (length c.args.xs.now) c.args.work.now) ≡ length c.args.work.now
 size c =
     back_size (length c.args.xs.now) c.args.work.now c.factor_rows.new.px (room_2 c) c.factor_rows.ensures.points
 
 pub index_points-requires : goal.index_points-requires
-index_points-requires c =
-    (
-      rw c.factor_rows.ensures.firsts (places_in_lem c.requires.works.0.placed),
-      apart c.requires.works.0.placed,
-      c.requires.works.0.full,
-      c.factor_rows.ensures.seconds ∙ sym c.factor_rows.ensures.firsts,
-      omega (arith, c.factor_rows.ensures.firsts, size c, c.requires.works.2),
-      omega (arith, c.factor_rows.ensures.firsts, (accepted c.requires.works.0.placed).n_most),
-    )
+index_points-requires c = (
+  rw c.factor_rows.ensures.firsts (places_in_lem c.requires.works.0.placed),
+  apart c.requires.works.0.placed,
+  c.requires.works.0.full,
+  c.factor_rows.ensures.seconds ∙ sym c.factor_rows.ensures.firsts,
+  omega (arith, c.factor_rows.ensures.firsts, size c, c.requires.works.2),
+  omega (arith, c.factor_rows.ensures.firsts, (accepted c.requires.works.0.placed).n_most),
+)
 
 -- there is room for the coordinates
 room_3 : (c : goal.After-store_four-arg-1) → length c.args.xs.now ≤ length c.args.work.now
@@ -49,19 +47,18 @@ room_3 c = omega (arith, c.requires.works.2)
 
 -- the working space when they are back
 size_2 : (c : goal.After-store_four-arg-1) →
- length (c.factor_rows.new.px ++ drop (length c.args.xs.now) c.args.work.now) ≡ length c.args.work.now
+    length (c.factor_rows.new.px ++ drop (length c.args.xs.now) c.args.work.now) ≡ length c.args.work.now
 size_2 c =
     back_size (length c.args.xs.now) c.args.work.now c.factor_rows.new.px (room_3 c) c.factor_rows.ensures.points
 
 pub store_four-requires : goal.store_four-requires
-store_four-requires c =
-    (
-      c.factor_rows.ensures.highs ∙ sym c.factor_rows.ensures.lows,
-      c.index_points.auto.a ∙ c.factor_rows.ensures.firsts ∙ sym c.factor_rows.ensures.lows,
-      c.index_points.auto.b ∙ c.factor_rows.ensures.seconds ∙ sym c.factor_rows.ensures.lows,
-      omega (arith, c.factor_rows.ensures.lows, c.index_points.auto.work, size_2 c, c.requires.works.2),
-      omega (arith, c.factor_rows.ensures.lows, (accepted c.requires.works.0.placed).n_most),
-    )
+store_four-requires c = (
+  c.factor_rows.ensures.highs ∙ sym c.factor_rows.ensures.lows,
+  c.index_points.auto.a ∙ c.factor_rows.ensures.firsts ∙ sym c.factor_rows.ensures.lows,
+  c.index_points.auto.b ∙ c.factor_rows.ensures.seconds ∙ sym c.factor_rows.ensures.lows,
+  omega (arith, c.factor_rows.ensures.lows, c.index_points.auto.work, size_2 c, c.requires.works.2),
+  omega (arith, c.factor_rows.ensures.lows, (accepted c.requires.works.0.placed).n_most),
+)
 
 -- there is room for the coordinates
 room_4 : (c : goal.After-slice_known-14-1) → length c.args.xs.now ≤ length c.args.work.now
@@ -69,7 +66,7 @@ room_4 c = omega (arith, c.requires.works.2)
 
 -- the working space when they are back
 size_3 : (c : goal.After-slice_known-14-1) →
- length (c.factor_rows.new.px ++ drop (length c.args.xs.now) c.args.work.now) ≡ length c.args.work.now
+    length (c.factor_rows.new.px ++ drop (length c.args.xs.now) c.args.work.now) ≡ length c.args.work.now
 size_3 c =
     back_size (length c.args.xs.now) c.args.work.now c.factor_rows.new.px (room_4 c) c.factor_rows.ensures.points
 

@@ -5,7 +5,6 @@ use native.Mathlib.Omega.{arith}
 use Rattle.solving.proofs.Link.{accepted}
 use Rattle.values.proofs.Runs.{fits}
 use Rattle.matrix.proofs.Theory.{arranged_first, completed}
-use borrow.Author.Rules.{rules}
 use Rattle.picked_rows.proofs.begin.factor_rows.Goals as goal
 
 pub overflow_sub-last : goal.overflow_sub-last
@@ -14,7 +13,9 @@ overflow_sub-last c = omega (arith, (accepted c.requires.works.0.placed).k_least
 pub rows_turn-requires : goal.rows_turn-requires
 rows_turn-requires c =
     let a = accepted c.requires.works.0.placed in
-    record { tables = c.requires.tables; fits = (
+    record {
+      tables = c.requires.tables;
+      fits = (
         fits (c.begin_rows-z.auto.l ∙ c.requires.works.1.lows ∙ sym c.begin_rows-z.ensures.firsts.size) (c.begin_rows-z.auto.u ∙ c.requires.works.1.highs ∙ sym c.begin_rows-z.ensures.firsts.size)
             ((arranged_first c.requires.works.0.placed c.requires.works.0.full c.begin_rows-z.ensures.firsts c.begin_rows-z.ensures.seconds).small (c.args.p.k - 1) (omega (arith, a.k_least))) c.begin_rows-z.ensures.shown,
         record {
@@ -23,7 +24,8 @@ rows_turn-requires c =
           seconds = omega (arith, c.begin_rows-z.auto.b, c.requires.works.1.seconds, a.k_least, a.k_most);
         },
         omega (arith, c.begin_rows-z.ensures.firsts.size, a.n_most),
-      ) }
+      );
+    }
 
 pub returns : goal.returns
 returns c =

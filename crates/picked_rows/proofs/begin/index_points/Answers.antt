@@ -5,7 +5,6 @@ use native.Mathlib.Omega.{arith}
 use lib.ListN.{length, take, drop}
 use Rattle.matrix.proofs.Marks.{marked}
 use Rattle.picked_rows.proofs.Stored.{second_lent, first_kept, second_spared, behind_as}
-use borrow.Author.Rules.{rules}
 use Rattle.picked_rows.proofs.begin.index_points.Goals as goal
 
 -- there is room for the marks, one for each point

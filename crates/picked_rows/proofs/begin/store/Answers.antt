@@ -8,17 +8,16 @@ use lib.Seq.{take_all}
 use Rattle.matrix.proofs.Joined.{row_fits, returned, lent_size, part_same, part_other}
 use Rattle.picked_rows.specs.Stored.{Put}
 use Rattle.picked_rows.proofs.Stored.{returned_spared}
-use borrow.Author.Rules.{rules}
 use Rattle.picked_rows.proofs.begin.store.Goals as goal
 
 -- z comes back for the array of index i, and begins as the one that was copied
 put_back : (n i : ℕ) (from work z : List ℕ) → length from ≡ n → i ≤ 6 → i * n + n ≤ length work → length z ≡ n → take n z ≡ take n from
- → Put n i from work (returned n i work z)
+    → Put n i from work (returned n i work z)
 put_back n i from work z whole few fits size same = record {
-      here = part_same n i work fits z size ∙ sym (take_all n z (omega arith)) ∙ same ∙ take_all n from (omega arith);
-      others = part_other n i work fits z size;
-      spared = returned_spared n i work z few fits size;
-    }
+  here = part_same n i work fits z size ∙ sym (take_all n z (omega arith)) ∙ same ∙ take_all n from (omega arith);
+  others = part_other n i work fits z size;
+  spared = returned_spared n i work z few fits size;
+}
 
 -- the array has its place, and its end is a small number
 room : (c : goal.After-slice_known-1) → let n = length c.args.from.now in (c.args.i * n + n ≤ length c.args.work.now) × (c.args.i * n + n ≤ 2016)

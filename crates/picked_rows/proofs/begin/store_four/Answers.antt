@@ -1,6 +1,5 @@
 -- Each array is put into its place, which the later ones leave as it is.
 use Rattle.picked_rows.proofs.Stored.{put_four}
-use borrow.Author.Rules.{rules}
 use Rattle.picked_rows.proofs.begin.store_four.Goals as goal
 
 pub returns : goal.returns

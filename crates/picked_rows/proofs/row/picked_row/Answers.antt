@@ -8,7 +8,6 @@ use Rattle.basics.proofs.Lists.{part_length}
 use Rattle.codewords.specs.Code.{Code, code_of}
 use Rattle.solving.proofs.Link.{accepted}
 use Rattle.picked_rows.proofs.Rows.{held, held_ready, held_left, held_sums, ready_lows, ready_highs, ready_slots, ready_row, place_of}
-use borrow.Author.Rules.{rules}
 use Rattle.picked_rows.proofs.row.picked_row.Goals as goal
 
 fits : (c : goal.After-chosen_place-place) → length c.args.xs.now ≤ length c.args.work.now
@@ -42,7 +41,9 @@ pub write_row-requires : goal.write_row-requires
 write_row-requires c =
     let n = length c.args.xs.now in
     let ready = held_ready (code c) (held n c.args.work.now) c.requires.works.1.stored in
-    let place = place_of c.requires.works.0 c.requires.works.3 c.chosen_place-place.ensures in record { tables = c.requires.tables; slots = (
+    let place = place_of c.requires.works.0 c.requires.works.3 c.chosen_place-place.ensures in record {
+      tables = c.requires.tables;
+      slots = (
         ready_slots ready c.requires.works.0.placed.done (ap length (held_sums n c.args.work.now) ∙ part_length c.args.work.now (5 * n) n (omega (arith, c.requires.works.1.stored.room))) c.requires.works.2,
         ready_lows ready,
         ready_highs ready,
@@ -51,7 +52,8 @@ write_row-requires c =
         place.0,
         omega (arith, place.1, ready.factored.points),
         held_left (code c) (held n c.args.work.now) (held_sums n c.args.work.now) c.requires.works.1.left,
-      ) }
+      );
+    }
 
 abbrev code_2 : goal.After-slice_known-2-1 → Code
 code_2 c = code_of c.args.p c.args.xs.now c.args.ys.now

@@ -3,7 +3,6 @@ use mathlib.Core.Path.{◌∙◌, ap}
 use lib.ListN.{replicate}
 use Rattle.generator.proofs.Turns.{slots_of}
 use Rattle.picked_rows.proofs.Rows.{row_written}
-use borrow.Author.Rules.{rules}
 use Rattle.picked_rows.proofs.row.write_row.Goals as goal
 
 pub fill_row-requires : goal.fill_row-requires

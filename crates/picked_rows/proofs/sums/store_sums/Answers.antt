@@ -7,7 +7,6 @@ use lib.Seq.{length-take-le}
 use Rattle.codewords.specs.Code.{code_of}
 use Rattle.codewords.proofs.Accepted.{accepted_done}
 use Rattle.picked_rows.proofs.Rows.{put_sums}
-use borrow.Author.Rules.{rules}
 use Rattle.picked_rows.proofs.sums.store_sums.Goals as goal
 
 most : (c : goal.After-sum_stored-arg-1) → length c.args.xs.now ≤ 288
@@ -39,9 +38,8 @@ size_2 : (c : goal.After-slice_known-4-1) → length c.sum_stored.new.sums ≡ l
 size_2 c = c.sum_stored.auto.sums ∙ c.requires.ys_value.2
 
 pub returns : goal.returns
-returns c =
-    (
-      put_sums (code_of c.args.p c.args.xs.now c.args.ys.now) (size_2 c) c.store.auto.work c.requires.ys_value.1
-          c.sum_stored.ensures c.store.ensures,
-      rw (size_2 c) at c.store.ensures.spared,
-    )
+returns c = (
+  put_sums (code_of c.args.p c.args.xs.now c.args.ys.now) (size_2 c) c.store.auto.work c.requires.ys_value.1
+      c.sum_stored.ensures c.store.ensures,
+  rw (size_2 c) at c.store.ensures.spared,
+)

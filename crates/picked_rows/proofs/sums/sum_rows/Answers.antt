@@ -1,23 +1,21 @@
 use Prim.{tt}
 use mathlib.Core.Path.{◌≡◌, sym, ◌∙◌, ap}
-use Prim.Native.Nat.{◌-◌, ◌≤◌}
 use native.Mathlib.Omega.{arith}
-use lib.ListN.{length, replicate}
+use lib.ListN.{replicate}
 use Rattle.generator.proofs.Turns.{slots_of}
-use Rattle.picked_rows.proofs.Rows.{LeftBy, left_none, left_turn}
+use Rattle.picked_rows.proofs.Rows.{left_none, left_turn}
 use Rattle.picked_rows.proofs.sums.sum_rows.Goals as goal
 
 pub fill_ones-requires : goal.fill_ones-requires
 fill_ones-requires c = tt
 
 pub loop-i-init : goal.loop-i-init
-loop-i-init c =
-    (
-      omega arith,
-      c.fill_ones.auto.out ∙ c.requires.slots.0.sum_size,
-      c.requires.slots.0.row_size,
-      left_none c.args.m c.args.k c.args.px.now c.args.l.now c.args.u.now c.args.a.now c.args.b.now c.fill_ones.ensures c.requires.slots.0.sum_size,
-    )
+loop-i-init c = (
+  omega arith,
+  c.fill_ones.auto.out ∙ c.requires.slots.0.sum_size,
+  c.requires.slots.0.row_size,
+  left_none c.args.m c.args.k c.args.px.now c.args.l.now c.args.u.now c.args.a.now c.args.b.now c.fill_ones.ensures c.requires.slots.0.sum_size,
+)
 
 pub clear-requires : goal.clear-requires
 clear-requires c = tt
@@ -34,13 +32,12 @@ pub loop-i-smaller : goal.loop-i-smaller
 loop-i-smaller c = omega (arith, c.loop-i-test.true)
 
 pub loop-i-preserved : goal.loop-i-preserved
-loop-i-preserved c =
-    (
-      omega (arith, c.loop-i-test.true),
-      c.fill_row.auto.sums ∙ c.loop-i.invariant.1,
-      c.fill_row.auto.row ∙ c.clear.auto.f ∙ c.loop-i.invariant.2,
-      left_turn c.args.m c.args.k c.args.px.now c.args.l.now c.args.u.now c.args.a.now c.args.b.now c.loop-i.invariant.3 c.fill_row.ensures,
-    )
+loop-i-preserved c = (
+  omega (arith, c.loop-i-test.true),
+  c.fill_row.auto.sums ∙ c.loop-i.invariant.1,
+  c.fill_row.auto.row ∙ c.clear.auto.f ∙ c.loop-i.invariant.2,
+  left_turn c.args.m c.args.k c.args.px.now c.args.l.now c.args.u.now c.args.a.now c.args.b.now c.loop-i.invariant.3 c.fill_row.ensures,
+)
 
 pub shape_of-sums : goal.shape_of-sums
 shape_of-sums c = c.loop-i.invariant.1 ∙ sym c.requires.slots.0.sum_size

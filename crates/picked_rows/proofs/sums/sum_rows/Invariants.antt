@@ -1,11 +1,8 @@
 -- The loop's invariant: the sums are what the first i rows leave of 1.
-use Prim.{tt}
-use mathlib.Core.Path.{◌≡◌, sym, ◌∙◌, ap}
+use mathlib.Core.Path.{◌≡◌}
 use Prim.Native.Nat.{◌-◌, ◌≤◌}
-use native.Mathlib.Omega.{arith}
-use lib.ListN.{length, replicate}
-use Rattle.generator.proofs.Turns.{slots_of}
-use Rattle.picked_rows.proofs.Rows.{LeftBy, left_none, left_turn}
+use lib.ListN.{length}
+use Rattle.picked_rows.proofs.Rows.{LeftBy}
 use Rattle.picked_rows.proofs.sums.sum_rows.Given as goal
 
 abbrev pub invariant-loop-i : goal.invariant-loop-i

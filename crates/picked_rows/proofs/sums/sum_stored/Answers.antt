@@ -6,7 +6,6 @@ use lib.ListN.{length}
 use lib.Seq.{length-take-le}
 use Rattle.codewords.specs.Code.{Code, code_of}
 use Rattle.picked_rows.proofs.Rows.{held, held_ready, left_held, ready_lows, ready_highs, ready_slots}
-use borrow.Author.Rules.{rules}
 use Rattle.picked_rows.proofs.sums.sum_stored.Goals as goal
 
 -- there is a byte for each point

@@ -2,7 +2,6 @@
 use mathlib.Core.Path.{◌∙◌}
 use native.Mathlib.Omega.{arith}
 use Rattle.trials.proofs.Parts.{part}
-use borrow.Author.Rules.{rules}
 use Rattle.random_codes.proofs.codes.try_drawn.Goals as goal
 
 pub slice_bounds-try_code-end : goal.slice_bounds-try_code-end

@@ -1,6 +1,5 @@
 -- The loop goes over the slots.
 use Prim.Native.Nat.{◌-◌, ◌≤◌}
-use borrow.Author.Rules.{rules}
 use Rattle.random_codes.proofs.eighty.lose_arcs.Given as goal
 
 abbrev pub invariant-loop-slot : goal.invariant-loop-slot

@@ -8,7 +8,6 @@ use lib.ListN.{length, get_or, take, set}
 use lib.Seq.{take-suc-set}
 use Rattle.solving.proofs.Link.{accepted, no_symbols}
 use Rattle.solving.proofs.Free.{index_most, picked}
-use borrow.Author.Rules.{rules}
 use Rattle.ranked.proofs.pick.pick_ranked.Goals as goal
 
 put_last : (l : List ℕ) (k a : ℕ) → 1 ≤ k → k < length l → take k (set l (k - 1) a) ≡ take (k - 1) l ++ a ∷ []

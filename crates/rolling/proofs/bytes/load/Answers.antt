@@ -1,5 +1,4 @@
 -- The callees give each field.
-use borrow.Author.Rules.{rules}
 use Rattle.rolling.specs.Bytes.{state_from}
 use Rattle.rolling.proofs.bytes.load.Goals as goal
 

@@ -1,11 +1,7 @@
 -- The loop's invariant: the first i codes are the numbers of the bytes.
-use Prim.Native.Nat.{◌*◌, ◌-◌, ◌≤◌}
-use mathlib.Core.Path.{◌≡◌, ◌∙◌}
-use native.Mathlib.Omega.{arith}
-use borrow.Author.Rules.{rules}
-use Rattle.basics.proofs.Loops.{filled, filled_turn, filled_all}
-use Rattle.basics.proofs.LittleEndian.{part_lt}
-use Rattle.rolling.specs.Bytes.{numbers}
+use Prim.Native.Nat.{◌-◌, ◌≤◌}
+use mathlib.Core.Path.{◌≡◌}
+use Rattle.basics.proofs.Loops.{filled}
 use Rattle.rolling.proofs.InBytes.{number_at}
 use Rattle.rolling.proofs.bytes.load_codes.Given as goal
 

@@ -1,8 +1,7 @@
-use Prim.Native.Nat.{◌+◌, ◌*◌, ◌-◌, ◌^◌, ◌≤◌, ◌<◌}
+use Prim.Native.Nat.{◌+◌, ◌*◌, ◌-◌, ◌^◌, ◌<◌}
 use mathlib.Core.Path.{◌≡◌, ◌∙◌}
 use native.Mathlib.Nat.{add-zero, sub-zero, sub_self}
 use native.Mathlib.Omega.{arith}
-use borrow.Author.Rules.{rules}
 use lib.ListN.{get_or}
 use Rattle.basics.specs.SetBits.{little_endian}
 use Rattle.rolling.proofs.InBytes.{Read, byte_below}
@@ -14,8 +13,8 @@ loop-j-init c = (omega arith, rw sub_self)
 
 -- the number with one byte more
 grown : (c : goal.In-loop-j) →
- let y = 256 * c.loop-j.x + get_or c.args.bytes.now (c.args.at + (c.loop-j.j - 1)) 0 in
- Read c.args.bytes.now c.args.at c.args.width (c.loop-j.j - 1) y × (y < 2 ^ 64)
+    let y = 256 * c.loop-j.x + get_or c.args.bytes.now (c.args.at + (c.loop-j.j - 1)) 0 in
+    Read c.args.bytes.now c.args.at c.args.width (c.loop-j.j - 1) y × (y < 2 ^ 64)
 grown c =
     byte_below c.args.bytes.now c.args.at c.args.width c.loop-j.j (λ i. (c.type_inv.bytes i).fits) c.requires c.loop-j-test.true
     c.loop-j.invariant.0 c.loop-j.invariant.1
@@ -25,8 +24,8 @@ overflow_mul-x c = record { fits = omega (arith, (grown c).1) }
 
 -- the number with one byte more
 grown_2 : (c : goal.After-wide) →
- let y = 256 * c.loop-j.x + get_or c.args.bytes.now (c.args.at + (c.loop-j.j - 1)) 0 in
- Read c.args.bytes.now c.args.at c.args.width (c.loop-j.j - 1) y × (y < 2 ^ 64)
+    let y = 256 * c.loop-j.x + get_or c.args.bytes.now (c.args.at + (c.loop-j.j - 1)) 0 in
+    Read c.args.bytes.now c.args.at c.args.width (c.loop-j.j - 1) y × (y < 2 ^ 64)
 grown_2 c =
     byte_below c.args.bytes.now c.args.at c.args.width c.loop-j.j (λ i. (c.type_inv.bytes i).fits) c.requires c.loop-j-test.true
     c.loop-j.invariant.0 c.loop-j.invariant.1

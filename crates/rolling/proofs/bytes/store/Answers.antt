@@ -1,8 +1,6 @@
 -- Each callee fills its part of the buffer.
-use Prim.Native.Nat.{ℕ}
 use mathlib.Core.Path.{sym}
 use native.Mathlib.Omega.{arith}
-use borrow.Author.Rules.{rules}
 use lib.Seq.{length-take-le}
 use Rattle.rolling.proofs.InBytes.{state_stored}
 use Rattle.rolling.proofs.bytes.store.Goals as goal

@@ -1,13 +1,9 @@
 -- The loop's invariant: the first i codes are in place.
-use Prim.Native.Nat.{◌+◌, ◌*◌, ◌-◌}
-use mathlib.Core.Path.{◌≡◌, ◌∙◌}
-use native.Mathlib.Omega.{arith}
-use borrow.Author.Rules.{rules}
+use Prim.Native.Nat.{◌*◌, ◌-◌}
+use mathlib.Core.Path.{◌≡◌}
 use lib.ListN.{length, take}
-use lib.Seq.{take_all}
 use Rattle.basics.specs.Lists.{Holds}
 use Rattle.rolling.specs.Bytes.{in_bytes}
-use Rattle.rolling.proofs.InBytes.{stored_size, number_stored, held_all}
 use Rattle.rolling.proofs.bytes.store_codes.Given as goal
 
 abbrev pub invariant-loop-i : goal.invariant-loop-i

@@ -1,9 +1,5 @@
-use Prim.Native.Nat.{◌-◌}
-use mathlib.Core.Path.{◌≡◌, refl}
-use mathlib.Core.List.{◌++◌}
-use borrow.Author.Rules.{rules}
-use lib.ListN.{length, take, drop, length-set}
-use Rattle.rolling.specs.Bytes.{bytes_of}
+use mathlib.Core.Path.{refl}
+use lib.ListN.{length-set}
 use Rattle.rolling.proofs.InBytes.{byte_stored, bytes_end}
 use Rattle.rolling.proofs.bytes.store_number.Goals as goal
 

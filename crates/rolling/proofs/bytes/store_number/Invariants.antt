@@ -1,11 +1,9 @@
 -- The loop's invariant: the first j bytes are in place, and the rest of the number belongs behind them.
 use Prim.Native.Nat.{◌-◌}
-use mathlib.Core.Path.{◌≡◌, refl}
+use mathlib.Core.Path.{◌≡◌}
 use mathlib.Core.List.{◌++◌}
-use borrow.Author.Rules.{rules}
-use lib.ListN.{length, take, drop, length-set}
+use lib.ListN.{length, take, drop}
 use Rattle.rolling.specs.Bytes.{bytes_of}
-use Rattle.rolling.proofs.InBytes.{byte_stored, bytes_end}
 use Rattle.rolling.proofs.bytes.store_number.Given as goal
 
 abbrev pub invariant-loop-j : goal.invariant-loop-j

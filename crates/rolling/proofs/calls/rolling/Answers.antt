@@ -1,7 +1,5 @@
 -- The lengths are tested; then the step answers for the state in the bytes, and where it is done its state and its mean are stored.
 use mathlib.Core.Path.{◌≡◌}
-use native.Mathlib.Omega.{arith}
-use borrow.Author.Rules.{rules}
 use borrow.Author.Tests.{eq-eqb, ne_eqb}
 use lib.ListN.{length}
 use mir.Syntax.{w16}
@@ -26,8 +24,8 @@ lengths c = (c.if-state-ne64.false, c.if-out-ne1.false)
 
 -- the step, from the state in the bytes
 stepped : (c : goal.After-slice_known-in-Done-1) →
- let old = state_from c.args.state.now in
- Meets (step_outcome old c.args.hour c.args.mean) c.step-s.result.answer (old, absent) (c.step-s.result.state, c.step-s.result.mean)
+    let old = state_from c.args.state.now in
+    Meets (step_outcome old c.args.hour c.args.mean) c.step-s.result.answer (old, absent) (c.step-s.result.state, c.step-s.result.mean)
 stepped c =
     rw (← c.load.ensures) (rw (to_z-of_z w16 c.args.mean c.ranges.mean) at c.step-s.ensures)
 
@@ -42,8 +40,8 @@ lengths_2 c = (c.if-state-ne64.false, c.if-out-ne1.false)
 
 -- the step, from the state in the bytes
 stepped_2 : (c : goal.In_default) →
- let old = state_from c.args.state.now in
- Meets (step_outcome old c.args.hour c.args.mean) c.step-s.result.answer (old, absent) (c.step-s.result.state, c.step-s.result.mean)
+    let old = state_from c.args.state.now in
+    Meets (step_outcome old c.args.hour c.args.mean) c.step-s.result.answer (old, absent) (c.step-s.result.state, c.step-s.result.mean)
 stepped_2 c =
     rw (← c.load.ensures) (rw (to_z-of_z w16 c.args.mean c.ranges.mean) at c.step-s.ensures)
 

@@ -1,6 +1,5 @@
 -- The length is tested, and then the callee fills the buffer.
 use mathlib.Core.Path.{◌∙◌, ap}
-use borrow.Author.Rules.{rules}
 use borrow.Author.Tests.{eq-eqb, ne_eqb}
 use Rattle.basics.proofs.Outcomes.{pass, refuse, accept}
 use Rattle.rolling.specs.Bytes.{state_bytes}

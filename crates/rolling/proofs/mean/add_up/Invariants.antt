@@ -1,10 +1,7 @@
 -- The loop's invariant: the codes before i are in the count and the sum.
-use Prim.Native.Nat.{ℕ, ◌+◌, ◌*◌, ◌-◌, ◌≤◌}
-use mathlib.Core.Path.{refl}
-use native.Mathlib.Omega.{arith}
-use borrow.Author.Rules.{rules}
+use Prim.Native.Nat.{◌-◌}
 use lib.ListN.{length}
-use Rattle.rolling.proofs.Totals.{Added, none_added, one_added, all_added, added_small}
+use Rattle.rolling.proofs.Totals.{Added}
 use Rattle.rolling.proofs.mean.add_up.Given as goal
 
 abbrev pub invariant-loop-i : goal.invariant-loop-i

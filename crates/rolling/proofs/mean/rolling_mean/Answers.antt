@@ -29,7 +29,7 @@ small_2 c = totals_small c.args.codes.now c.requires c.add_up-t.ensures (omega (
 
 -- the sum of the means, as `nearest` gets it
 its-sum : (c : goal.After-sum_of_means) →
- to_z w32 (of_z w32 c.sum_of_means.result) ≡ pos c.add_up-t.result.sum -ℤ pos (2000 * c.add_up-t.result.count)
+    to_z w32 (of_z w32 c.sum_of_means.result) ≡ pos c.add_up-t.result.sum -ℤ pos (2000 * c.add_up-t.result.count)
 its-sum c = rw (to_z-of_z w32 c.sum_of_means.result (record { sfits = c.sum_of_means.type_inv })) c.sum_of_means.ensures
 
 pub nearest-requires : goal.nearest-requires
@@ -38,7 +38,7 @@ nearest-requires c = let s = small_2 c in
 
 -- the sum of the means, as `nearest` gets it
 its-sum_2 : (c : goal.After-nearest) →
- to_z w32 (of_z w32 c.sum_of_means.result) ≡ pos c.add_up-t.result.sum -ℤ pos (2000 * c.add_up-t.result.count)
+    to_z w32 (of_z w32 c.sum_of_means.result) ≡ pos c.add_up-t.result.sum -ℤ pos (2000 * c.add_up-t.result.count)
 its-sum_2 c = rw (to_z-of_z w32 c.sum_of_means.result (record { sfits = c.sum_of_means.type_inv })) c.sum_of_means.ensures
 
 pub returns : goal.returns

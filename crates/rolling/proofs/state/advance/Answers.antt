@@ -1,6 +1,5 @@
 -- The callee shifts the codes; the newest is the mean's.
 use mathlib.Core.Path.{◌≡◌}
-use borrow.Author.Rules.{rules}
 use mir.Syntax.{w16}
 use mir.ValLaws.{to_z-of_z}
 use Rattle.hours.specs.Packing.{encode}

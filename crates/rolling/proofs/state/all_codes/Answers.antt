@@ -1,8 +1,7 @@
-use Prim.Native.Nat.{◌+◌, ◌-◌}
+use Prim.Native.Nat.{◌+◌}
 use mathlib.Core.Path.{◌≡◌, refl, sym, ◌∙◌}
-use mathlib.Core.Bool.{◌&&◌, and-true, and_assoc}
-use borrow.Author.Rules.{rules}
-use lib.ListN.{length, get_or, drop, drop_of_length-le}
+use mathlib.Core.Bool.{and-true, and_assoc}
+use lib.ListN.{get_or, drop, drop_of_length-le}
 use Rattle.basics.specs.Lists.{all}
 use Rattle.basics.proofs.Loops.{next}
 use Rattle.hours.specs.Packing.{is_code}

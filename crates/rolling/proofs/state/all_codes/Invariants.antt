@@ -1,11 +1,9 @@
 -- The loop's invariant: what the codes passed say, and the rest.
-use Prim.Native.Nat.{◌+◌, ◌-◌}
-use mathlib.Core.Path.{◌≡◌, refl, sym, ◌∙◌}
-use mathlib.Core.Bool.{◌&&◌, and-true, and_assoc}
-use borrow.Author.Rules.{rules}
-use lib.ListN.{length, get_or, drop, drop_of_length-le}
+use Prim.Native.Nat.{◌-◌}
+use mathlib.Core.Path.{◌≡◌}
+use mathlib.Core.Bool.{◌&&◌}
+use lib.ListN.{length, drop}
 use Rattle.basics.specs.Lists.{all}
-use Rattle.basics.proofs.Loops.{next}
 use Rattle.hours.specs.Packing.{is_code}
 use Rattle.rolling.proofs.state.all_codes.Given as goal
 

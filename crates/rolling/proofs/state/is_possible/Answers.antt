@@ -1,7 +1,6 @@
 -- Test after test, in the definition's order.
 use mathlib.Core.Path.{sym, ◌∙◌}
-use borrow.Author.Rules.{rules}
-use borrow.Author.Tests.{le-leb, lt-leb, eq-eqb, ne_eqb, not-true, not-false}
+use borrow.Author.Tests.{le-leb, lt-leb, eq-eqb, ne_eqb}
 use Rattle.rolling.specs.State.{possible}
 use Rattle.rolling.proofs.state.is_possible.Goals as goal
 

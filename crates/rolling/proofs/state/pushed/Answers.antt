@@ -1,10 +1,7 @@
-use Prim.Native.Nat.{◌+◌, ◌≤◌}
 use mathlib.Core.Path.{◌≡◌}
-use mathlib.Core.List.{◌++◌}
 use native.Mathlib.Omega.{arith}
-use borrow.Author.Rules.{rules}
 use borrow.Kind.Array.{good_length, e_int}
-use lib.ListN.{length, take, drop}
+use lib.ListN.{length}
 use mir.Syntax.{w16}
 use Rattle.rolling.proofs.Shift.{shift_start, shift_turn, shift_end}
 use Rattle.rolling.proofs.state.pushed.Goals as goal

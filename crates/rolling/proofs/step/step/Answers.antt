@@ -1,8 +1,6 @@
 -- Test after test; then the callees give the state one hour further and its mean.
 use mathlib.Core.Path.{◌≡◌, sym, ◌∙◌, ap}
 use mathlib.Core.Bool.{true}
-use borrow.Author.Rules.{rules}
-use borrow.Author.Tests.{not-true, not-false}
 use mir.Syntax.{w16}
 use mir.ValLaws.{to_z-of_z}
 use Rattle.basics.specs.Lists.{all}
@@ -60,7 +58,7 @@ advance-new-requires c =
 
 -- the state one hour further, and that it holds means
 further : (c : goal.After-codes-2-1) →
- c.advance-new.result ≡ advanced c.args.state c.args.hour c.args.mean
+    c.advance-new.result ≡ advanced c.args.state c.args.hour c.args.mean
 further c =
     rw (to_z-of_z w16 c.args.mean c.ranges.mean) at c.advance-new.ensures
 
@@ -96,7 +94,7 @@ next-ok c = sym c.is_next.ensures ∙ c.if-not-is_next.false
 
 -- the state one hour further, and that it holds means
 further_2 : (c : goal.After-rolling_mean) →
- c.advance-new.result ≡ advanced c.args.state c.args.hour c.args.mean
+    c.advance-new.result ≡ advanced c.args.state c.args.hour c.args.mean
 further_2 c =
     rw (to_z-of_z w16 c.args.mean c.ranges.mean) at c.advance-new.ensures
 

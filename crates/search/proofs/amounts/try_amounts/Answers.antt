@@ -1,9 +1,9 @@
-use Prim.Native.Nat.{◌-◌, ◌<◌, ◌≤◌}
+use Prim.Native.Nat.{◌-◌, ◌<◌}
 use mathlib.Core.Path.{◌≡◌, ◌∙◌, ap}
 use native.Mathlib.Omega.{arith}
 use Rattle.field.specs.Galois.{size}
 use Rattle.field.proofs.Galois.{size_le, size_ge}
-use Rattle.search.proofs.Pairing.{PairGoing, amounts_start, amounts_turn, amounts_end}
+use Rattle.search.proofs.Pairing.{amounts_start, amounts_turn, amounts_end}
 use Rattle.search.proofs.amounts.try_amounts.Goals as goal
 
 pub size-all-requires : goal.size-all-requires

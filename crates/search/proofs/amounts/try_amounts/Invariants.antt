@@ -1,10 +1,6 @@
 -- The amounts at the later place one after the other, each with all at the earlier.
-use Prim.Native.Nat.{◌-◌, ◌<◌, ◌≤◌}
-use mathlib.Core.Path.{◌≡◌, ◌∙◌, ap}
-use native.Mathlib.Omega.{arith}
-use Rattle.field.specs.Galois.{size}
-use Rattle.field.proofs.Galois.{size_le, size_ge}
-use Rattle.search.proofs.Pairing.{PairGoing, amounts_start, amounts_turn, amounts_end}
+use Prim.Native.Nat.{◌-◌, ◌≤◌}
+use Rattle.search.proofs.Pairing.{PairGoing}
 use Rattle.search.proofs.amounts.try_amounts.Given as goal
 
 abbrev pub invariant-loop-d : goal.invariant-loop-d

@@ -6,7 +6,6 @@ use Rattle.elliptic.specs.Pair.{add_scaled}
 use Rattle.tries.specs.Multiples.{best_multiple}
 use Rattle.search.specs.Found.{improved}
 use Rattle.search.proofs.Improved.{improved_none, none_tried}
-use borrow.Author.Rules.{rules}
 use Rattle.search.proofs.block.try_block.Goals as goal
 
 pub returns-then-left-eq0 : goal.returns-then-left-eq0

@@ -1,14 +1,12 @@
-use Prim.Native.Nat.{◌-◌, ◌≤◌}
+use Prim.Native.Nat.{◌-◌}
 use mathlib.Core.Path.{◌≡◌, refl, ◌∙◌}
 use native.Mathlib.Omega.{arith}
-use lib.ListN.{length}
 use Rattle.field.specs.Galois.{size}
 use Rattle.field.proofs.Galois.{size_le, size_ge}
-use Rattle.codewords.specs.Code.{code_of}
-use Rattle.patterns.specs.Patterns.{down, pair}
-use Rattle.search.proofs.Running.{Going, going_start}
+use Rattle.patterns.specs.Patterns.{down}
+use Rattle.search.proofs.Running.{going_start}
 use Rattle.search.proofs.Loops.{going_down, going_over, runs_over}
-use Rattle.search.proofs.Pairing.{earlier, less_pair, square_few}
+use Rattle.search.proofs.Pairing.{less_pair, square_few}
 use Rattle.search.proofs.pairs.try_earlier.Goals.{then-rest-gt0, else-rest-gt0}
 use Rattle.search.proofs.pairs.try_earlier.Goals as goal
 
@@ -48,16 +46,15 @@ size_of_3 : (c : goal.After-less-rest) → c.size-some.result ≡ size c.args.p.
 size_of_3 c = c.size-some.ensures
 
 pub loop-i-preserved : goal.loop-i-preserved
-loop-i-preserved c =
-    (
-      omega (arith, c.loop-i.invariant.0),
-      c.if-rest-gt0.auto.early_row ∙ c.loop-i.invariant.1,
-      going_down c.loop-i.i c.loop-i-test.true (less_pair c.loop-i.rest (size c.args.p.field) c.args.p.k c.args.late.0 (size_of_3 c) (c.loop-i.i - 1) c.less-rest.ensures)
-          (elim c.if-rest-gt0.branch [
-            then-rest-gt0 w ↦ rw w.best-is w.try_pair-best.ensures
-            | else-rest-gt0 w ↦ rw w.best-is (runs_over c.loop-i.rest _ w.if-rest-gt0.false c.loop-i.invariant.2.is_try)
-          ]) c.loop-i.invariant.2,
-    )
+loop-i-preserved c = (
+  omega (arith, c.loop-i.invariant.0),
+  c.if-rest-gt0.auto.early_row ∙ c.loop-i.invariant.1,
+  going_down c.loop-i.i c.loop-i-test.true (less_pair c.loop-i.rest (size c.args.p.field) c.args.p.k c.args.late.0 (size_of_3 c) (c.loop-i.i - 1) c.less-rest.ensures)
+      (elim c.if-rest-gt0.branch [
+        | then-rest-gt0 w ↦ rw w.best-is w.try_pair-best.ensures
+        | else-rest-gt0 w ↦ rw w.best-is (runs_over c.loop-i.rest _ w.if-rest-gt0.false c.loop-i.invariant.2.is_try)
+      ]) c.loop-i.invariant.2,
+)
 
 pub shape_of-early_row : goal.shape_of-early_row
 shape_of-early_row c = c.loop-i.invariant.1

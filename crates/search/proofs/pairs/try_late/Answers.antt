@@ -1,6 +1,5 @@
 -- The later place's row is written, and then its pairs are tried.
 use Rattle.picked_rows.proofs.Difference.{given_works}
-use borrow.Author.Rules.{rules}
 use Rattle.search.proofs.pairs.try_late.Goals as goal
 
 pub picked_row-requires : goal.picked_row-requires

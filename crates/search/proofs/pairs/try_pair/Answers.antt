@@ -9,7 +9,6 @@ use Rattle.patterns.specs.Best.{changed, word_of}
 use Rattle.picked_rows.specs.Stored.{Given}
 use Rattle.picked_rows.proofs.Difference.{given_works}
 use Rattle.search.proofs.Settings.{accepted, places_many, trust_places, base_part, pair_rows, pair_past}
-use borrow.Author.Rules.{rules}
 use Rattle.search.proofs.pairs.try_pair.Goals as goal
 
 -- the given code and word
@@ -80,8 +79,8 @@ given_6 c = c.requires.prepared.0.given
 
 -- the difference that is lent is that of the received word and the codeword
 is_base : (c : goal.After-try_amounts-arg-1)
- → let n = length c.args.xs.now in take (6 * n + n - 6 * n) (drop (6 * n) c.args.work.now)
- ≡ changed c.args.received.now (word_of (code_6 c) c.args.received.now c.args.trusts.now (none c.args.p.k))
+    → let n = length c.args.xs.now in take (6 * n + n - 6 * n) (drop (6 * n) c.args.work.now)
+    ≡ changed c.args.received.now (word_of (code_6 c) c.args.received.now c.args.trusts.now (none c.args.p.k))
 is_base c = base_part (length c.args.xs.now) c.args.work.now ∙ c.requires.prepared.0.base
 
 pub try_amounts-requires : goal.try_amounts-requires
@@ -97,8 +96,8 @@ given_7 c = c.requires.prepared.0.given
 
 -- the difference that is lent is that of the received word and the codeword
 is_base_2 : (c : goal.After-try_amounts)
- → let n = length c.args.xs.now in take (6 * n + n - 6 * n) (drop (6 * n) c.args.work.now)
- ≡ changed c.args.received.now (word_of (code_7 c) c.args.received.now c.args.trusts.now (none c.args.p.k))
+    → let n = length c.args.xs.now in take (6 * n + n - 6 * n) (drop (6 * n) c.args.work.now)
+    ≡ changed c.args.received.now (word_of (code_7 c) c.args.received.now c.args.trusts.now (none c.args.p.k))
 is_base_2 c = base_part (length c.args.xs.now) c.args.work.now ∙ c.requires.prepared.0.base
 
 pub returns : goal.returns

@@ -1,15 +1,11 @@
 use Prim.Native.Nat.{◌-◌, ◌≤◌}
 use mathlib.Core.Path.{◌≡◌, refl, ◌∙◌}
 use native.Mathlib.Omega.{arith}
-use lib.ListN.{length}
 use Rattle.field.specs.Galois.{size}
 use Rattle.field.proofs.Galois.{size_le, size_ge}
-use Rattle.codewords.specs.Code.{code_of}
-use Rattle.patterns.specs.Patterns.{down, pairs}
-use Rattle.search.proofs.Running.{Going}
 use Rattle.search.proofs.Settings.{accepted}
 use Rattle.search.proofs.Loops.{going_down, going_over, runs_over}
-use Rattle.search.proofs.Pairing.{earlier, pairs_start, less_earlier, square_few, product_few}
+use Rattle.search.proofs.Pairing.{pairs_start, less_earlier, square_few, product_few}
 use Rattle.search.proofs.pairs.try_pairs.Goals.{then-rest-gt0, else-rest-gt0}
 use Rattle.search.proofs.pairs.try_pairs.Goals as goal
 
@@ -56,17 +52,16 @@ size_of_3 : (c : goal.After-less-rest) → c.size-some.result ≡ size c.args.p.
 size_of_3 c = c.size-some.ensures
 
 pub loop-i-preserved : goal.loop-i-preserved
-loop-i-preserved c =
-    (
-      omega (arith, c.loop-i.invariant.0),
-      c.if-rest-gt0.auto.late_row ∙ c.loop-i.invariant.1,
-      c.if-rest-gt0.auto.early_row ∙ c.loop-i.invariant.2,
-      going_down c.loop-i.i c.loop-i-test.true (less_earlier c.loop-i.rest (size c.args.p.field) c.args.p.k (c.loop-i.i - 1) (size_of_3 c) c.less-rest.ensures)
-          (elim c.if-rest-gt0.branch [
-            then-rest-gt0 w ↦ rw w.best-is w.try_late-best.ensures
-            | else-rest-gt0 w ↦ rw w.best-is (runs_over c.loop-i.rest _ w.if-rest-gt0.false c.loop-i.invariant.3.is_try)
-          ]) c.loop-i.invariant.3,
-    )
+loop-i-preserved c = (
+  omega (arith, c.loop-i.invariant.0),
+  c.if-rest-gt0.auto.late_row ∙ c.loop-i.invariant.1,
+  c.if-rest-gt0.auto.early_row ∙ c.loop-i.invariant.2,
+  going_down c.loop-i.i c.loop-i-test.true (less_earlier c.loop-i.rest (size c.args.p.field) c.args.p.k (c.loop-i.i - 1) (size_of_3 c) c.less-rest.ensures)
+      (elim c.if-rest-gt0.branch [
+        | then-rest-gt0 w ↦ rw w.best-is w.try_late-best.ensures
+        | else-rest-gt0 w ↦ rw w.best-is (runs_over c.loop-i.rest _ w.if-rest-gt0.false c.loop-i.invariant.3.is_try)
+      ]) c.loop-i.invariant.3,
+)
 
 pub shape_of-late_row : goal.shape_of-late_row
 shape_of-late_row c = c.loop-i.invariant.1

@@ -1,17 +1,12 @@
 -- The later places from the last to the first.
-use Prim.Native.Nat.{◌-◌, ◌≤◌}
-use mathlib.Core.Path.{◌≡◌, refl, ◌∙◌}
-use mathlib.Core.Logic.{⊎_elim}
-use native.Mathlib.Omega.{arith}
+use Prim.Native.Nat.{◌≤◌}
+use mathlib.Core.Path.{◌≡◌}
 use lib.ListN.{length}
 use Rattle.field.specs.Galois.{size}
-use Rattle.field.proofs.Galois.{size_le, size_ge}
 use Rattle.codewords.specs.Code.{code_of}
 use Rattle.patterns.specs.Patterns.{down, pairs}
 use Rattle.search.proofs.Running.{Going}
-use Rattle.search.proofs.Settings.{accepted}
-use Rattle.search.proofs.Loops.{going_down, going_over, runs_over}
-use Rattle.search.proofs.Pairing.{earlier, pairs_start, less_earlier, square_few, product_few}
+use Rattle.search.proofs.Pairing.{earlier}
 use Rattle.search.proofs.pairs.try_pairs.Given as goal
 
 abbrev pub invariant-loop-i : goal.invariant-loop-i

@@ -5,7 +5,6 @@ use native.Mathlib.Omega.{arith}
 use lib.ListN.{take, drop}
 use Rattle.patterns.specs.Cheapest.{weigh}
 use Rattle.search.specs.Found.{start}
-use borrow.Author.Rules.{rules}
 use Rattle.search.proofs.run.first_try.Goals as goal
 
 pub returns : goal.returns

@@ -1,8 +1,6 @@
-use Prim.Native.Nat.{◌+◌, ◌*◌, ◌-◌, ◌<◌, ◌≤◌}
-use mathlib.Core.Path.{◌≡◌}
+use Prim.Native.Nat.{◌<◌, ◌≤◌}
 use native.Mathlib.Omega.{arith}
-use lib.ListN.{length, get_or, drop}
-use Rattle.patterns.specs.Cheapest.{weigh}
+use lib.ListN.{length, get_or}
 use Rattle.search.proofs.Loops.{weigh_more, weigh_same, weigh_over}
 use Rattle.search.proofs.run.total.Goals.{then-difference-i-ne0, else-difference-i-ne0}
 use Rattle.search.proofs.run.total.Goals as goal
@@ -42,15 +40,14 @@ inside_2 c = omega (arith, c.loop-i-test.true, c.requires.0)
 
 pub loop-i-preserved : goal.loop-i-preserved
 loop-i-preserved c =
-    let known = c.loop-i.invariant in
-    (
+    let known = c.loop-i.invariant in (
       omega (arith, c.loop-i-test.true),
       elim c.if-difference-i-ne0.branch [
-        then-difference-i-ne0 w ↦ omega (arith, w.sum-is, (c.type_inv.trusts c.loop-i.i).fits, known.1)
+        | then-difference-i-ne0 w ↦ omega (arith, w.sum-is, (c.type_inv.trusts c.loop-i.i).fits, known.1)
         | else-difference-i-ne0 w ↦ omega (arith, w.sum-is, known.1)
       ],
       elim c.if-difference-i-ne0.branch [
-        then-difference-i-ne0 w ↦ rw w.sum-is (weigh_more c.args.trusts.now c.args.difference.now c.loop-i.i c.loop-i.sum known.2 c.loop-i-test.true (inside_2 c) w.if-difference-i-ne0.true)
+        | then-difference-i-ne0 w ↦ rw w.sum-is (weigh_more c.args.trusts.now c.args.difference.now c.loop-i.i c.loop-i.sum known.2 c.loop-i-test.true (inside_2 c) w.if-difference-i-ne0.true)
         | else-difference-i-ne0 w ↦ rw w.sum-is (weigh_same c.args.trusts.now c.args.difference.now c.loop-i.i c.loop-i.sum known.2 c.loop-i-test.true (inside_2 c) w.if-difference-i-ne0.false)
       ],
     )

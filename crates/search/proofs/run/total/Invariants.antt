@@ -1,11 +1,8 @@
 -- The loop's invariant: the sum so far, with what is left, is the whole.
-use Prim.Native.Nat.{◌+◌, ◌*◌, ◌-◌, ◌<◌, ◌≤◌}
+use Prim.Native.Nat.{◌+◌, ◌*◌, ◌-◌, ◌≤◌}
 use mathlib.Core.Path.{◌≡◌}
-use mathlib.Core.Logic.{⊎_elim}
-use native.Mathlib.Omega.{arith}
-use lib.ListN.{length, get_or, drop}
+use lib.ListN.{length, drop}
 use Rattle.patterns.specs.Cheapest.{weigh}
-use Rattle.search.proofs.Loops.{weigh_more, weigh_same, weigh_over}
 use Rattle.search.proofs.run.total.Given as goal
 
 abbrev pub invariant-loop-i : goal.invariant-loop-i

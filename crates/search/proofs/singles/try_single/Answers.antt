@@ -11,7 +11,6 @@ use Rattle.picked_rows.specs.Stored.{Given}
 use Rattle.picked_rows.proofs.Difference.{given_works}
 use Rattle.search.proofs.Blocks.{runs_single}
 use Rattle.search.proofs.Settings.{accepted, places_many, trust_places, base_part, pair_rows, single_past}
-use borrow.Author.Rules.{rules}
 use Rattle.search.proofs.singles.try_single.Goals as goal
 
 -- the given code and word
@@ -70,8 +69,8 @@ given_5 c = c.requires.prepared.0.given
 
 -- the difference that is lent is that of the received word and the codeword
 is_base : (c : goal.After-try_block-arg-1)
- → let n = length c.args.xs.now in take (6 * n + n - 6 * n) (drop (6 * n) c.args.work.now)
- ≡ changed c.args.received.now (word_of (code_5 c) c.args.received.now c.args.trusts.now (none c.args.p.k))
+    → let n = length c.args.xs.now in take (6 * n + n - 6 * n) (drop (6 * n) c.args.work.now)
+    ≡ changed c.args.received.now (word_of (code_5 c) c.args.received.now c.args.trusts.now (none c.args.p.k))
 is_base c = base_part (length c.args.xs.now) c.args.work.now ∙ c.requires.prepared.0.base
 
 pub try_block-requires : goal.try_block-requires
@@ -87,8 +86,8 @@ given_6 c = c.requires.prepared.0.given
 
 -- the difference that is lent is that of the received word and the codeword
 is_base_2 : (c : goal.After-try_block)
- → let n = length c.args.xs.now in take (6 * n + n - 6 * n) (drop (6 * n) c.args.work.now)
- ≡ changed c.args.received.now (word_of (code_6 c) c.args.received.now c.args.trusts.now (none c.args.p.k))
+    → let n = length c.args.xs.now in take (6 * n + n - 6 * n) (drop (6 * n) c.args.work.now)
+    ≡ changed c.args.received.now (word_of (code_6 c) c.args.received.now c.args.trusts.now (none c.args.p.k))
 is_base_2 c = base_part (length c.args.xs.now) c.args.work.now ∙ c.requires.prepared.0.base
 
 pub returns : goal.returns

@@ -1,12 +1,10 @@
-use Prim.Native.Nat.{◌-◌, ◌≤◌}
-use mathlib.Core.Path.{◌≡◌, refl, sym, ◌∙◌, ap}
+use Prim.Native.Nat.{◌-◌}
+use mathlib.Core.Path.{refl, sym, ◌∙◌, ap}
 use native.Mathlib.Omega.{arith}
-use lib.ListN.{length}
 use Rattle.field.proofs.Galois.{size_ge}
 use Rattle.codewords.specs.Code.{Code, code_of, q}
-use Rattle.patterns.specs.Patterns.{none, singles, down}
+use Rattle.patterns.specs.Patterns.{none}
 use Rattle.search.specs.Search.{values, Runs}
-use Rattle.search.proofs.Running.{Going}
 use Rattle.search.proofs.Loops.{going_down, going_over, runs_over, length_values, singles_start}
 use Rattle.search.proofs.singles.try_singles.Goals.{then-rest-gt0, else-rest-gt0}
 use Rattle.search.proofs.singles.try_singles.Goals as goal
@@ -38,10 +36,10 @@ code c = code_of c.args.p c.args.xs.now c.args.ys.now
 
 -- the changes of the place before i: tried, or none is left
 tried : (c : goal.After-less-rest) →
- Runs (code c) c.args.received.now c.args.trusts.now c.loop-i.best c.loop-i.rest (values (q (code c)) (none c.args.p.k) (c.loop-i.i - 1)) c.if-rest-gt0.best
+    Runs (code c) c.args.received.now c.args.trusts.now c.loop-i.best c.loop-i.rest (values (q (code c)) (none c.args.p.k) (c.loop-i.i - 1)) c.if-rest-gt0.best
 tried c =
     elim c.if-rest-gt0.branch [
-      then-rest-gt0 w ↦ rw w.best-is w.try_single-best.ensures
+      | then-rest-gt0 w ↦ rw w.best-is w.try_single-best.ensures
       | else-rest-gt0 w ↦ rw w.best-is (runs_over c.loop-i.rest _ w.if-rest-gt0.false c.loop-i.invariant.2.is_try)
     ]
 

@@ -1,15 +1,11 @@
 -- The loop's invariant: the places before i are still to go.
-use Prim.Native.Nat.{◌-◌, ◌≤◌}
-use mathlib.Core.Path.{◌≡◌, refl, sym, ◌∙◌, ap}
-use mathlib.Core.Logic.{⊎_elim}
-use native.Mathlib.Omega.{arith}
+use Prim.Native.Nat.{◌≤◌}
+use mathlib.Core.Path.{◌≡◌}
 use lib.ListN.{length}
-use Rattle.field.proofs.Galois.{size_ge}
-use Rattle.codewords.specs.Code.{Code, code_of, q}
+use Rattle.codewords.specs.Code.{code_of, q}
 use Rattle.patterns.specs.Patterns.{none, singles, down}
-use Rattle.search.specs.Search.{values, Runs}
+use Rattle.search.specs.Search.{values}
 use Rattle.search.proofs.Running.{Going}
-use Rattle.search.proofs.Loops.{going_down, going_over, runs_over, length_values, singles_start}
 use Rattle.search.proofs.singles.try_singles.Given as goal
 
 abbrev pub invariant-loop-i : goal.invariant-loop-i

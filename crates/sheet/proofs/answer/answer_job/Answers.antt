@@ -8,7 +8,6 @@ use Rattle.basics.specs.declared.Refusal.TheVariants.{SheetShape}
 use Rattle.sheet.specs.Running.{ran}
 use Rattle.sheet.proofs.Answers.{refusal_few, accepting_few}
 use Rattle.sheet.proofs.Whole.{accepted_text, refused_text, appends_as}
-use borrow.Author.Rules.{rules}
 use Rattle.sheet.proofs.answer.answer_job.Goals as goal
 
 -- the function and the word stand in their buffers

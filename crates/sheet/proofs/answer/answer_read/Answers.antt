@@ -8,7 +8,6 @@ use Rattle.basics.specs.declared.Refusal.TheVariants.{SheetShape}
 use Rattle.text.specs.Stages.{sheet_in}
 use Rattle.sheet.proofs.Answers.{refusal_few}
 use Rattle.sheet.proofs.Whole.{read_text, bad_text, appends_as}
-use borrow.Author.Rules.{rules}
 use Rattle.sheet.proofs.answer.answer_read.Goals as goal
 
 pub returns-in_default : goal.returns-in_default

@@ -1,7 +1,6 @@
 -- The room, and then the answer.
 use native.Mathlib.Omega.{arith}
 use Rattle.sheet.proofs.Whole.{too_short, answered}
-use borrow.Author.Rules.{rules}
 use Rattle.sheet.proofs.answer.answer_sheet.Goals as goal
 
 pub returns-then-out-lt-ROOM : goal.returns-then-out-lt-ROOM

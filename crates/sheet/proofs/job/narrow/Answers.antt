@@ -1,12 +1,10 @@
-use Prim.Native.Nat.{◌-◌}
-use mathlib.Core.Path.{◌≡◌, refl}
+use mathlib.Core.Path.{refl}
 use native.Mathlib.Omega.{arith}
 use borrow.Author.Tests.{ltb-true}
-use lib.ListN.{length, get_or, take, length-set}
+use lib.ListN.{get_or, length-set}
 use Rattle.basics.proofs.Lists.{all_get}
 use Rattle.code.specs.Lists.{is_below}
 use Rattle.sheet.proofs.Jobs.{narrowed, all_narrow}
-use borrow.Author.Rules.{rules}
 use Rattle.sheet.proofs.job.narrow.Goals as goal
 
 pub loop-i-init : goal.loop-i-init

@@ -1,13 +1,7 @@
 -- The loop's invariant: the first i are the symbols.
 use Prim.Native.Nat.{◌-◌}
-use mathlib.Core.Path.{◌≡◌, refl}
-use native.Mathlib.Omega.{arith}
-use borrow.Author.Tests.{ltb-true}
-use lib.ListN.{length, get_or, take, length-set}
-use Rattle.basics.proofs.Lists.{all_get}
-use Rattle.code.specs.Lists.{is_below}
-use Rattle.sheet.proofs.Jobs.{narrowed, all_narrow}
-use borrow.Author.Rules.{rules}
+use mathlib.Core.Path.{◌≡◌}
+use lib.ListN.{length, take}
 use Rattle.sheet.proofs.job.narrow.Given as goal
 
 abbrev pub invariant-loop-i : goal.invariant-loop-i

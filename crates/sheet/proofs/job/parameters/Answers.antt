@@ -1,7 +1,6 @@
 -- Each number fits by what the function requires.
 use native.Mathlib.Omega.{arith}
 use Rattle.sheet.proofs.Jobs.{bytes}
-use borrow.Author.Rules.{rules}
 use Rattle.sheet.proofs.job.parameters.Goals as goal
 
 pub overflow_cast-curve : goal.overflow_cast-curve

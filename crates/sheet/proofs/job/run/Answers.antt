@@ -2,14 +2,12 @@
 use mathlib.Core.Bool.{true}
 use mathlib.Core.Path.{◌≡◌, sym, ◌∙◌}
 use native.Mathlib.Omega.{arith}
-use borrow.Author.Tests.{not-true, not-false}
 use Rattle.field.specs.Galois.{is_field}
 use Rattle.field.proofs.Galois.{is_field_lem, no_field}
 use Rattle.codewords.specs.Code.{coefficients_below}
 use Rattle.sheet.specs.Job.{curve_of, code_for, job_outcome}
 use Rattle.sheet.proofs.Stops.{passes, stops}
 use Rattle.sheet.proofs.Jobs.{too_large}
-use borrow.Author.Rules.{rules}
 use Rattle.sheet.proofs.job.run.Goals as goal
 
 pub returns-then-head-ge256 : goal.returns-then-head-ge256

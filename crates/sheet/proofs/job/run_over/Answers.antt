@@ -1,11 +1,8 @@
 -- The code test, and then the job of a code that passed it.
 use mathlib.Core.Path.{sym, ◌∙◌}
-use mathlib.Core.Logic.{⊎_elim}
-use native.Mathlib.Omega.{arith}
 use Rattle.codewords.proofs.Accepted.{check_done}
 use Rattle.sheet.proofs.Stops.{runs_as}
 use Rattle.sheet.proofs.Jobs.{code_stops}
-use borrow.Author.Rules.{rules}
 use Rattle.sheet.proofs.job.run_over.Goals as goal
 
 pub run_tested-requires : goal.run_tested-requires

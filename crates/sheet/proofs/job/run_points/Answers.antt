@@ -1,12 +1,10 @@
 -- Points, and then the job over those that it listed.
 use Prim.Native.Nat.{◌≤◌}
 use mathlib.Core.Path.{sym}
-use mathlib.Core.Logic.{⊎_elim}
 use native.Mathlib.Omega.{arith}
 use lib.ListN.{length}
 use lib.Seq.{length-take-le}
 use Rattle.sheet.proofs.Jobs.{points_stop, points_x, points_y, few_points}
-use borrow.Author.Rules.{rules}
 use Rattle.sheet.proofs.job.run_points.Goals as goal
 
 -- the points that were counted fit both buffers

@@ -1,11 +1,9 @@
 -- Test after test, in the order of their numbers.
 use mathlib.Core.Path.{◌≡◌, sym, ◌∙◌, ap}
 use mathlib.Core.Bool.{true}
-use mathlib.Core.Logic.{⊎_elim}
-use native.Mathlib.Omega.{arith}
 use lib.Dec.{eqb}
 use lib.ListN.{length}
-use borrow.Author.Tests.{eq-eqb, ne_eqb, not-true, not-false}
+use borrow.Author.Tests.{eq-eqb, ne_eqb}
 use Rattle.basics.specs.Lists.{all}
 use Rattle.code.specs.Lists.{is_below}
 use Rattle.codewords.specs.Code.{code_of}
@@ -14,7 +12,6 @@ use Rattle.codewords.proofs.Accepted.{accepted_done}
 use Rattle.solving.proofs.Chains.{places_passed}
 use Rattle.sheet.proofs.Stops.{passes, stops}
 use Rattle.sheet.proofs.Jobs.{places_stop}
-use borrow.Author.Rules.{rules}
 use Rattle.sheet.proofs.job.run_tested.Goals as goal
 
 pub returns-then-places-p : goal.returns-then-places-p
@@ -60,14 +57,17 @@ says_2 c = ap (λ q. all (is_below q) c.args.message.now) (sym c.size.ensures) �
 
 pub solve_message-requires : goal.solve_message-requires
 solve_message-requires c =
-    let t = passed_2 c in record { solvable = record {
+    let t = passed_2 c in record {
+      solvable = record {
         done = c.requires.ys_value;
         places_many = c.if-places-p.false;
         symbols_many = c.if-message-p.false;
         are_all_places = t.0;
         differ = t.1;
         are_symbols = says_2 c ∙ c.if-not-symbols_below.false;
-      }; rooms = c.requires.rooms }
+      };
+      rooms = c.requires.rooms;
+    }
 
 passed_3 : (c : goal.After-slice_known-in-Done-2-1) → (all_places (code_of c.args.p c.args.xs.now c.args.ys.now) c.args.places.now ≡ true) × (places_differ (code_of c.args.p c.args.xs.now c.args.ys.now) c.args.places.now ≡ true)
 passed_3 c = places_passed _ _ (sym c.test_places-tested.ensures ∙ c.in-Done.is)

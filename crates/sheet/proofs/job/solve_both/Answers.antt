@@ -1,11 +1,9 @@
 -- The function, and where it is accepted, the word.
 use Prim.Native.Nat.{◌≤◌}
-use mathlib.Core.Logic.{⊎_elim}
 use native.Mathlib.Omega.{arith}
 use lib.ListN.{length}
 use Rattle.codewords.specs.Code.{code_of}
 use Rattle.sheet.proofs.Jobs.{function_left, word_left, both_solved, not_solved}
-use borrow.Author.Rules.{rules}
 use Rattle.sheet.proofs.job.solve_both.Goals as goal
 
 pub returns-in-Done : goal.returns-in-Done

@@ -8,7 +8,6 @@ use lib.Seq.{length-take-le, length_front}
 use Rattle.basics.proofs.Lists.{front}
 use Rattle.codewords.proofs.Accepted.{accepted_done}
 use Rattle.sheet.proofs.Jobs.{are_bytes, k_few}
-use borrow.Author.Rules.{rules}
 use Rattle.sheet.proofs.job.solve_narrowed.Goals as goal
 
 few : (c : goal.After-slice_known-3-1) → c.args.p.k ≤ length c.args.symbols.now

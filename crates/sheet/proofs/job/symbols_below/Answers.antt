@@ -1,12 +1,9 @@
-use Prim.Native.Nat.{◌-◌}
-use mathlib.Core.Path.{◌≡◌, refl}
+use mathlib.Core.Path.{refl}
 use native.Mathlib.Omega.{arith}
 use borrow.Author.Tests.{lt-ltb, le-ltb}
-use lib.ListN.{length, get_or, drop}
-use Rattle.basics.specs.Lists.{all}
+use lib.ListN.{get_or}
 use Rattle.basics.proofs.Loops.{all_fails, all_passes, all_ends}
 use Rattle.code.specs.Lists.{is_below}
-use borrow.Author.Rules.{rules}
 use Rattle.sheet.proofs.job.symbols_below.Goals as goal
 
 pub loop-i-init : goal.loop-i-init

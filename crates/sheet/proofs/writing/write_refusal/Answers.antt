@@ -4,7 +4,6 @@ use native.Mathlib.Omega.{arith}
 use Rattle.text.specs.Text.{answer_key}
 use Rattle.sheet.specs.Job.{answer_text}
 use Rattle.text.proofs.Appending.{line_few}
-use borrow.Author.Rules.{rules}
 use Rattle.sheet.proofs.writing.write_refusal.Goals as goal
 
 pub put_line-requires : goal.put_line-requires

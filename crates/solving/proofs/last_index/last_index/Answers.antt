@@ -1,5 +1,4 @@
 -- The case that was taken is the one of the definition.
-use borrow.Author.Rules.{rules}
 use Rattle.solving.proofs.last_index.last_index.Goals as goal
 
 pub returns-then-zero : goal.returns-then-zero

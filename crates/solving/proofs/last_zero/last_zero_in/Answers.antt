@@ -6,7 +6,6 @@ use Rattle.engine.specs.Places.{coordinate_at}
 use Rattle.values.specs.Values.{one}
 use Rattle.solving.proofs.Link.{accepted, are_chosen}
 use Rattle.solving.proofs.Gathered.{gathered_coordinates, gathered_runs, gathered_zero}
-use borrow.Author.Rules.{rules}
 use Rattle.solving.proofs.last_zero.last_zero_in.Goals as goal
 
 pub gather-requires : goal.gather-requires

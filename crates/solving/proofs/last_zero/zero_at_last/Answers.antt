@@ -5,7 +5,6 @@ use native.Mathlib.Omega.{arith}
 use lib.Dec.{eqb}
 use lib.ListN.{length}
 use Rattle.values.proofs.Runs.{begun_size}
-use borrow.Author.Rules.{rules}
 use Rattle.solving.proofs.last_zero.zero_at_last.Goals as goal
 
 pub zero_chosen-requires : goal.zero_chosen-requires

@@ -1,13 +1,9 @@
 -- The tests of the lists, and then what is solved for.
 use mathlib.Core.Path.{◌≡◌, sym, ◌∙◌}
-use mathlib.Core.Logic.{⊎_elim}
-use native.Mathlib.Omega.{arith}
-use borrow.Author.Tests.{not-true, not-false}
 use Rattle.basics.specs.declared.Answer.TheVariants.{Done}
 use Rattle.codewords.specs.Code.{code_of}
 use Rattle.solving.specs.Tests.{lists_answer}
 use Rattle.solving.proofs.Chains.{posed, prepared_not, prepared_done, prepared_stop}
-use borrow.Author.Rules.{rules}
 use Rattle.solving.proofs.prepare_word.prepare_word.Goals as goal
 
 pub test_lists-tested-requires : goal.test_lists-tested-requires

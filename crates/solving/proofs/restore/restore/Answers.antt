@@ -1,9 +1,8 @@
 use Prim.Native.Nat.{◌-◌}
 use mathlib.Core.Path.{◌≡◌, sym, ◌∙◌, ap}
 use native.Mathlib.Omega.{arith}
-use lib.ListN.{length, get_or}
-use Rattle.solving.proofs.Restored.{PutTo, put_none, put_in, put_turn, put_all, places_fit, free_none}
-use borrow.Author.Rules.{rules}
+use lib.ListN.{get_or}
+use Rattle.solving.proofs.Restored.{put_none, put_in, put_turn, put_all, places_fit, free_none}
 use Rattle.solving.proofs.restore.restore.Goals as goal
 
 pub loop-j-init : goal.loop-j-init

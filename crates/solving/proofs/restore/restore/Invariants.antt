@@ -1,10 +1,7 @@
 -- The loop's invariant: the values at the first j places are put back.
 use Prim.Native.Nat.{◌-◌}
-use mathlib.Core.Path.{◌≡◌, sym, ◌∙◌, ap}
-use native.Mathlib.Omega.{arith}
-use lib.ListN.{length, get_or}
-use Rattle.solving.proofs.Restored.{PutTo, put_none, put_in, put_turn, put_all, places_fit, free_none}
-use borrow.Author.Rules.{rules}
+use lib.ListN.{length}
+use Rattle.solving.proofs.Restored.{PutTo}
 use Rattle.solving.proofs.restore.restore.Given as goal
 
 abbrev pub invariant-loop-j : goal.invariant-loop-j

@@ -1,8 +1,6 @@
-use Prim.Native.Nat.{◌-◌}
 use mathlib.Core.Path.{sym, ◌∙◌}
 use native.Mathlib.Omega.{arith}
-use lib.ListN.{length}
-use Rattle.solving.proofs.Restored.{FreeTo, free_none, read_in, free_turn, free_all}
+use Rattle.solving.proofs.Restored.{free_none, read_in, free_turn, free_all}
 use Rattle.solving.proofs.restore.restore_free.Goals as goal
 
 pub overflow_sub-s : goal.overflow_sub-s

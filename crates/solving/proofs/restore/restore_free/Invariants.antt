@@ -1,9 +1,7 @@
 -- The loop's invariant: the values at the free points before t are put back, and the later marks still stand.
 use Prim.Native.Nat.{◌-◌}
-use mathlib.Core.Path.{sym, ◌∙◌}
-use native.Mathlib.Omega.{arith}
 use lib.ListN.{length}
-use Rattle.solving.proofs.Restored.{FreeTo, free_none, read_in, free_turn, free_all}
+use Rattle.solving.proofs.Restored.{FreeTo}
 use Rattle.solving.proofs.restore.restore_free.Given as goal
 
 abbrev pub invariant-loop-t : goal.invariant-loop-t

@@ -7,7 +7,6 @@ use Rattle.basics.proofs.Lists.{holds_as, holds_length}
 use Rattle.field.specs.Galois.{galois}
 use Rattle.elliptic.specs.Pair.{corrected, padded}
 use Rattle.solving.proofs.Interpolant.{take_most, corrected_length, padded_holds}
-use borrow.Author.Rules.{rules}
 use Rattle.solving.proofs.solve.finish_at.Goals as goal
 
 pub point_at-p-requires : goal.point_at-p-requires

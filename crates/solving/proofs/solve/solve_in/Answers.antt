@@ -11,7 +11,6 @@ use Rattle.engine.proofs.States.{room, word_room}
 use Rattle.solving.proofs.Link.{accepted, within, may_run, small, sizes, zero_last}
 use Rattle.solving.proofs.Free.{not_free, index_lt}
 use Rattle.solving.proofs.Interpolant.{unsolved, solves}
-use borrow.Author.Rules.{rules}
 use Rattle.solving.proofs.solve.solve_in.Goals as goal
 
 pub overflow_sub-count : goal.overflow_sub-count
@@ -26,8 +25,8 @@ chosen_place-place-requires c = omega (arith, c.requires.posed.0.at_least, (acce
 
 -- the pair and the interpolant have room where they stand
 has_room : (c : goal.After-zero_at-arg-1)
- →
- Room c.run-n.new.l c.run-n.new.u c.run-n.result.pair × WordRoom c.run-n.new.f c.run-n.result
+    →
+    Room c.run-n.new.l c.run-n.new.u c.run-n.result.pair × WordRoom c.run-n.new.f c.run-n.result
 has_room c =
     let few = small c.requires.posed.0.placed _ c.requires.posed.0.are_symbols (c.args.p.k - 1) (omega arith) (omega (arith, c.requires.posed.0.at_least)) in (
       room c.run-n.ensures.pair few
@@ -44,8 +43,8 @@ last_index-last-requires c = (accepted c.requires.posed.0.placed).k_least
 
 -- whether L is zero at the k-th place
 says : (c : goal.Then-last-places)
- →
- c.zero_at-zero.result ≡ last_zero (arithmetic (code_of c.args.p c.args.xs.now c.args.ys.now)) c.args.p.k (points_of (code_of c.args.p c.args.xs.now c.args.ys.now) c.args.places.now) c.args.symbols.now
+    →
+    c.zero_at-zero.result ≡ last_zero (arithmetic (code_of c.args.p c.args.xs.now c.args.ys.now)) c.args.p.k (points_of (code_of c.args.p c.args.xs.now c.args.ys.now) c.args.places.now) c.args.symbols.now
 says c = zero_last c.requires.posed.0.placed _ c.requires.posed.0.are_symbols c.requires.posed.0.at_least c.run-n.ensures.pair c.chosen_place-place.ensures c.zero_at-zero.ensures
 
 pub returns-then-last-places : goal.returns-then-last-places
@@ -54,8 +53,8 @@ returns-then-last-places c =
 
 -- whether L is zero at the k-th place
 says_2 : (c : goal.Else-last-places)
- →
- c.zero_at-zero.result ≡ last_zero (arithmetic (code_of c.args.p c.args.xs.now c.args.ys.now)) c.args.p.k (points_of (code_of c.args.p c.args.xs.now c.args.ys.now) c.args.places.now) c.args.symbols.now
+    →
+    c.zero_at-zero.result ≡ last_zero (arithmetic (code_of c.args.p c.args.xs.now c.args.ys.now)) c.args.p.k (points_of (code_of c.args.p c.args.xs.now c.args.ys.now) c.args.places.now) c.args.symbols.now
 says_2 c = zero_last c.requires.posed.0.placed _ c.requires.posed.0.are_symbols c.requires.posed.0.at_least c.run-n.ensures.pair c.chosen_place-place.ensures c.zero_at-zero.ensures
 
 -- the last place is one of the list
@@ -68,8 +67,8 @@ chosen_place-at-requires c = last-lt c
 
 -- whether L is zero at the k-th place
 says_3 : (c : goal.After-chosen_place-at)
- →
- c.zero_at-zero.result ≡ last_zero (arithmetic (code_of c.args.p c.args.xs.now c.args.ys.now)) c.args.p.k (points_of (code_of c.args.p c.args.xs.now c.args.ys.now) c.args.places.now) c.args.symbols.now
+    →
+    c.zero_at-zero.result ≡ last_zero (arithmetic (code_of c.args.p c.args.xs.now c.args.ys.now)) c.args.p.k (points_of (code_of c.args.p c.args.xs.now c.args.ys.now) c.args.places.now) c.args.symbols.now
 says_3 c = zero_last c.requires.posed.0.placed _ c.requires.posed.0.are_symbols c.requires.posed.0.at_least c.run-n.ensures.pair c.chosen_place-place.ensures c.zero_at-zero.ensures
 
 -- the last place is one of the list
@@ -82,8 +81,8 @@ message_symbol-v-requires c = omega (arith, last-lt_2 c, c.requires.posed.0.leng
 
 -- the pair and the interpolant have room where they stand
 has_room_2 : (c : goal.After-finish_at-arg-1)
- →
- Room c.run-n.new.l c.run-n.new.u c.run-n.result.pair × WordRoom c.run-n.new.f c.run-n.result
+    →
+    Room c.run-n.new.l c.run-n.new.u c.run-n.result.pair × WordRoom c.run-n.new.f c.run-n.result
 has_room_2 c =
     let few = small c.requires.posed.0.placed _ c.requires.posed.0.are_symbols (c.args.p.k - 1) (omega arith) (omega (arith, c.requires.posed.0.at_least)) in (
       room c.run-n.ensures.pair few
@@ -93,8 +92,8 @@ has_room_2 c =
 
 -- whether L is zero at the k-th place
 says_4 : (c : goal.After-finish_at-arg-1)
- →
- c.zero_at-zero.result ≡ last_zero (arithmetic (code_of c.args.p c.args.xs.now c.args.ys.now)) c.args.p.k (points_of (code_of c.args.p c.args.xs.now c.args.ys.now) c.args.places.now) c.args.symbols.now
+    →
+    c.zero_at-zero.result ≡ last_zero (arithmetic (code_of c.args.p c.args.xs.now c.args.ys.now)) c.args.p.k (points_of (code_of c.args.p c.args.xs.now c.args.ys.now) c.args.places.now) c.args.symbols.now
 says_4 c = zero_last c.requires.posed.0.placed _ c.requires.posed.0.are_symbols c.requires.posed.0.at_least c.run-n.ensures.pair c.chosen_place-place.ensures c.zero_at-zero.ensures
 
 -- the last place is one of the list
@@ -106,22 +105,25 @@ pub finish_at-requires : goal.finish_at-requires
 finish_at-requires c =
     let (fits, word_fits) = has_room_2 c in
     let few = sizes c.requires.posed.0.placed _ c.requires.posed.0.are_symbols (c.args.p.k - 1) (omega (arith, c.requires.posed.0.at_least)) in
-    let k = (accepted c.requires.posed.0.placed).k_least in record { tables = c.requires.tables; place = (
+    let k = (accepted c.requires.posed.0.placed).k_least in record {
+      tables = c.requires.tables;
+      place = (
         rw c.chosen_place-at.ensures ((within c.requires.posed.0.placed (length c.args.places.now) (omega arith)).each_is_place _ (last-lt_3 c)),
         fits,
         word_fits,
         omega (arith, k, holds_length c.run-n.ensures.pair.low, few.low_length),
         omega (arith, k, holds_length c.run-n.ensures.word, few.word_length),
         omega (arith, word_fits.long_word, (accepted c.requires.posed.0.placed).k_most, (accepted c.requires.posed.0.placed).n_most),
-      ) }
+      );
+    }
 
 pub shape_of-l : goal.shape_of-l
 shape_of-l c = c.run-n.auto.l
 
 -- whether L is zero at the k-th place
 says_5 : (c : goal.After-slice_known-7-1)
- →
- c.zero_at-zero.result ≡ last_zero (arithmetic (code_of c.args.p c.args.xs.now c.args.ys.now)) c.args.p.k (points_of (code_of c.args.p c.args.xs.now c.args.ys.now) c.args.places.now) c.args.symbols.now
+    →
+    c.zero_at-zero.result ≡ last_zero (arithmetic (code_of c.args.p c.args.xs.now c.args.ys.now)) c.args.p.k (points_of (code_of c.args.p c.args.xs.now c.args.ys.now) c.args.places.now) c.args.symbols.now
 says_5 c = zero_last c.requires.posed.0.placed _ c.requires.posed.0.are_symbols c.requires.posed.0.at_least c.run-n.ensures.pair c.chosen_place-place.ensures c.zero_at-zero.ensures
 
 pub returns : goal.returns

@@ -2,7 +2,6 @@
 use mathlib.Core.Path.{◌∙◌, ap}
 use Rattle.field.specs.Galois.{galois}
 use Rattle.elliptic.specs.Pair.{add_scaled}
-use borrow.Author.Rules.{rules}
 use Rattle.solving.proofs.solve_word.correct.Goals as goal
 
 pub returns : goal.returns

@@ -1,5 +1,4 @@
 -- The array where L stands.
-use borrow.Author.Rules.{rules}
 use Rattle.solving.proofs.solve_word.correct_at.Goals as goal
 
 pub returns-then-turned : goal.returns-then-turned

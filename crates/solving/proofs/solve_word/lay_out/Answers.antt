@@ -7,7 +7,6 @@ use Rattle.arrangement.specs.Arranged.{free_at}
 use Rattle.values.specs.Values.{one}
 use Rattle.solving.proofs.Link.{accepted}
 use Rattle.solving.proofs.Arranged.{places_in_lem, apart}
-use borrow.Author.Rules.{rules}
 use Rattle.solving.proofs.solve_word.lay_out.Goals as goal
 
 pub mark-requires : goal.mark-requires
@@ -26,8 +25,7 @@ pub fill_ones-requires : goal.fill_ones-requires
 fill_ones-requires c = tt
 
 pub returns : goal.returns
-returns c =
-    (
-      record { firsts = c.arrange.ensures; seconds = c.arrange-2.ensures; ones = c.fill_ones.ensures ∙ ap (table one) (c.requires.px_len.1 ∙ (accepted c.requires.placed).lengths ∙ sym c.arrange-2.ensures.size) },
-      c.mark.ensures ∙ ap (table (free_at c.args.places.now)) c.requires.px_len.3,
-    )
+returns c = (
+  record { firsts = c.arrange.ensures; seconds = c.arrange-2.ensures; ones = c.fill_ones.ensures ∙ ap (table one) (c.requires.px_len.1 ∙ (accepted c.requires.placed).lengths ∙ sym c.arrange-2.ensures.size) },
+  c.mark.ensures ∙ ap (table (free_at c.args.places.now)) c.requires.px_len.3,
+)

@@ -9,7 +9,6 @@ use Rattle.solving.proofs.Link.{accepted}
 use Rattle.solving.proofs.Free.{not_free, index_lt}
 use Rattle.solving.proofs.Arranged.{few, laid_points, laid_low, laid_high, arranged_coordinates, arranged_runs, arranged_zero}
 use Rattle.solving.proofs.Interpolant.{unsolved, solves_shown}
-use borrow.Author.Rules.{rules}
 use Rattle.solving.proofs.solve_word.solve_laid.Goals as goal
 
 pub overflow_sub-count : goal.overflow_sub-count
@@ -29,8 +28,8 @@ last_index-last-requires c = (accepted c.requires.posed.0.placed).k_least
 
 -- whether L is zero at the k-th place
 says : (c : goal.Then-last-places)
- →
- c.zero_chosen-zero.result ≡ last_zero (arithmetic (code_of c.args.p c.args.xs.now c.args.ys.now)) c.args.p.k (points_of (code_of c.args.p c.args.xs.now c.args.ys.now) c.args.places.now) c.args.symbols.now
+    →
+    c.zero_chosen-zero.result ≡ last_zero (arithmetic (code_of c.args.p c.args.xs.now c.args.ys.now)) c.args.p.k (points_of (code_of c.args.p c.args.xs.now c.args.ys.now) c.args.places.now) c.args.symbols.now
 says c =
     arranged_zero c.requires.posed.0.placed c.requires.posed.1.firsts c.requires.posed.1.seconds _ c.requires.posed.0.are_symbols c.requires.posed.0.at_least c.run-n.new.l c.run-n.new.u c.run-n.result c.run-n.ensures.0 c.zero_chosen-zero.ensures
 
@@ -40,8 +39,8 @@ returns-then-last-places c =
 
 -- whether L is zero at the k-th place
 says_2 : (c : goal.Else-last-places)
- →
- c.zero_chosen-zero.result ≡ last_zero (arithmetic (code_of c.args.p c.args.xs.now c.args.ys.now)) c.args.p.k (points_of (code_of c.args.p c.args.xs.now c.args.ys.now) c.args.places.now) c.args.symbols.now
+    →
+    c.zero_chosen-zero.result ≡ last_zero (arithmetic (code_of c.args.p c.args.xs.now c.args.ys.now)) c.args.p.k (points_of (code_of c.args.p c.args.xs.now c.args.ys.now) c.args.places.now) c.args.symbols.now
 says_2 c =
     arranged_zero c.requires.posed.0.placed c.requires.posed.1.firsts c.requires.posed.1.seconds _ c.requires.posed.0.are_symbols c.requires.posed.0.at_least c.run-n.new.l c.run-n.new.u c.run-n.result c.run-n.ensures.0 c.zero_chosen-zero.ensures
 
@@ -55,8 +54,8 @@ message_symbol-v-requires c = omega (arith, last-lt c, c.requires.posed.0.length
 
 -- whether L is zero at the k-th place
 says_3 : (c : goal.After-correct_at-arg-1)
- →
- c.zero_chosen-zero.result ≡ last_zero (arithmetic (code_of c.args.p c.args.xs.now c.args.ys.now)) c.args.p.k (points_of (code_of c.args.p c.args.xs.now c.args.ys.now) c.args.places.now) c.args.symbols.now
+    →
+    c.zero_chosen-zero.result ≡ last_zero (arithmetic (code_of c.args.p c.args.xs.now c.args.ys.now)) c.args.p.k (points_of (code_of c.args.p c.args.xs.now c.args.ys.now) c.args.places.now) c.args.symbols.now
 says_3 c =
     arranged_zero c.requires.posed.0.placed c.requires.posed.1.firsts c.requires.posed.1.seconds _ c.requires.posed.0.are_symbols c.requires.posed.0.at_least c.run-n.new.l c.run-n.new.u c.run-n.result c.run-n.ensures.0 c.zero_chosen-zero.ensures
 
@@ -67,23 +66,25 @@ last-lt_2 c =
 
 pub correct_at-requires : goal.correct_at-requires
 correct_at-requires c =
-    let long = laid_points c.requires.posed.0.placed c.requires.posed.1 in record { tables = c.requires.tables; index_in_bounds = (
+    let long = laid_points c.requires.posed.0.placed c.requires.posed.1 in record {
+      tables = c.requires.tables;
+      index_in_bounds = (
         omega (arith, last-lt_2 c, few c.requires.posed.0.placed, long, c.requires.posed.2, c.run-n.auto.f),
         omega (arith, laid_low c.requires.posed.0.placed c.requires.posed.1, long, c.requires.posed.2, c.run-n.auto.l, c.run-n.auto.f),
         omega (arith, laid_high c.requires.posed.0.placed c.requires.posed.1, long, c.requires.posed.2, c.run-n.auto.u, c.run-n.auto.f),
-      ) }
+      );
+    }
 
 pub put_symbols-requires : goal.put_symbols-requires
-put_symbols-requires c =
-    (
-      omega (arith, c.requires.posed.0.lengths, c.requires.posed.0.at_least),
-      omega (arith, c.requires.posed.0.at_least, few c.requires.posed.0.placed, laid_points c.requires.posed.0.placed c.requires.posed.1, c.requires.posed.2, c.run-n.auto.f, c.correct_at.auto.f),
-    )
+put_symbols-requires c = (
+  omega (arith, c.requires.posed.0.lengths, c.requires.posed.0.at_least),
+  omega (arith, c.requires.posed.0.at_least, few c.requires.posed.0.placed, laid_points c.requires.posed.0.placed c.requires.posed.1, c.requires.posed.2, c.run-n.auto.f, c.correct_at.auto.f),
+)
 
 -- whether L is zero at the k-th place
 says_4 : (c : goal.After-slice_known-8-1)
- →
- c.zero_chosen-zero.result ≡ last_zero (arithmetic (code_of c.args.p c.args.xs.now c.args.ys.now)) c.args.p.k (points_of (code_of c.args.p c.args.xs.now c.args.ys.now) c.args.places.now) c.args.symbols.now
+    →
+    c.zero_chosen-zero.result ≡ last_zero (arithmetic (code_of c.args.p c.args.xs.now c.args.ys.now)) c.args.p.k (points_of (code_of c.args.p c.args.xs.now c.args.ys.now) c.args.places.now) c.args.symbols.now
 says_4 c =
     arranged_zero c.requires.posed.0.placed c.requires.posed.1.firsts c.requires.posed.1.seconds _ c.requires.posed.0.are_symbols c.requires.posed.0.at_least c.run-n.new.l c.run-n.new.u c.run-n.result c.run-n.ensures.0 c.zero_chosen-zero.ensures
 

@@ -2,7 +2,6 @@
 use mathlib.Core.Path.{sym}
 use lib.Seq.{length-take-le}
 use Rattle.solving.proofs.Link.{accepted}
-use borrow.Author.Rules.{rules}
 use Rattle.solving.proofs.solve_word.solve_word.Goals as goal
 
 pub slice_bounds-px-end : goal.slice_bounds-px-end

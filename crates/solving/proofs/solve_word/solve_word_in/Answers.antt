@@ -1,13 +1,11 @@
 -- The points are laid out, what is solved for is computed there, and put back.
 use mathlib.Core.Path.{sym, ◌∙◌, ap}
 use native.Mathlib.Omega.{arith}
-use borrow.Author.Tests.{not-true, not-false}
 use Rattle.basics.specs.Lists.{table}
 use Rattle.arrangement.specs.Arranged.{free_at}
 use Rattle.solving.proofs.Link.{accepted}
 use Rattle.solving.proofs.Arranged.{places_in_lem, apart}
 use Rattle.solving.proofs.Interpolant.{unsolved, restores}
-use borrow.Author.Rules.{rules}
 use Rattle.solving.proofs.solve_word.solve_word_in.Goals as goal
 
 pub lay_out-requires : goal.lay_out-requires

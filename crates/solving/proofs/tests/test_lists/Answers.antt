@@ -1,9 +1,7 @@
 -- The tests of places, and then test after test in the order of their numbers.
 use Prim.{tt}
 use mathlib.Core.Path.{◌≡◌, refl, sym, ◌∙◌, ap}
-use mathlib.Core.Logic.{⊎_elim}
-use native.Mathlib.Omega.{arith}
-use borrow.Author.Tests.{not-true, not-false, le-leb, lt-leb}
+use borrow.Author.Tests.{le-leb, lt-leb}
 use lib.ListN.{length}
 use Rattle.basics.specs.declared.Answer.TheVariants.{Done}
 use Rattle.basics.specs.Lists.{all}
@@ -14,7 +12,6 @@ use Rattle.codewords.specs.Codewords.{symbols}
 use Rattle.codewords.proofs.Accepted.{accepted_done}
 use Rattle.solving.specs.Tests.{places_answer}
 use Rattle.solving.proofs.Chains.{places_go, places_stop}
-use borrow.Author.Rules.{rules}
 use Rattle.solving.proofs.tests.test_lists.Goals as goal
 
 pub test_places-tested-requires : goal.test_places-tested-requires

@@ -2,12 +2,10 @@
 use Prim.{tt}
 use mathlib.Core.Path.{◌≡◌, refl, sym, ◌∙◌}
 use mathlib.Core.Bool.{true}
-use borrow.Author.Tests.{not-true, not-false}
 use Rattle.basics.specs.Lists.{all}
 use Rattle.basics.proofs.Outcomes.{pass, refuse, accept}
 use Rattle.code.specs.Lists.{is_place}
 use Rattle.solving.proofs.Link.{places_below}
-use borrow.Author.Rules.{rules}
 use Rattle.solving.proofs.tests.test_places.Goals as goal
 
 pub returns-then-not-all_places : goal.returns-then-not-all_places

@@ -1,14 +1,10 @@
-use Prim.Native.Nat.{ℕ, ◌-◌, ◌<◌}
-use mathlib.Core.Path.{◌≡◌, refl, sym, ◌∙◌, ap}
-use mathlib.Core.List.{List, map}
+use mathlib.Core.Path.{refl, sym, ◌∙◌}
+use mathlib.Core.List.{map}
 use native.Mathlib.Omega.{arith}
-use lib.ListN.{length, get_or, drop, length-map}
-use Rattle.basics.specs.Lists.{same}
-use Rattle.basics.proofs.Lists.{get_or_map_in}
+use lib.ListN.{length, length-map}
 use Rattle.basics.proofs.Loops.{same_fails, same_passes, same_ends}
 use Rattle.codewords.specs.Codewords.{symbol_at, agrees}
 use Rattle.solving.proofs.Link.{place_at_lem}
-use borrow.Author.Rules.{rules}
 use Rattle.solving.proofs.words.agrees_at.Invariants.{symbol, read}
 use Rattle.solving.proofs.words.agrees_at.Goals as goal
 

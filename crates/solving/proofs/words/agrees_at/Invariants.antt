@@ -1,15 +1,11 @@
 -- The loop's invariant: the first i agree, so the rest decides.
 use Prim.Native.Nat.{ℕ, ◌-◌, ◌<◌}
-use mathlib.Core.Path.{◌≡◌, refl, sym, ◌∙◌, ap}
+use mathlib.Core.Path.{◌≡◌, sym, ◌∙◌, ap}
 use mathlib.Core.List.{List, map}
-use native.Mathlib.Omega.{arith}
-use lib.ListN.{length, get_or, drop, length-map}
+use lib.ListN.{length, get_or, drop}
 use Rattle.basics.specs.Lists.{same}
 use Rattle.basics.proofs.Lists.{get_or_map_in}
-use Rattle.basics.proofs.Loops.{same_fails, same_passes, same_ends}
-use Rattle.codewords.specs.Codewords.{symbol_at, agrees}
-use Rattle.solving.proofs.Link.{place_at_lem}
-use borrow.Author.Rules.{rules}
+use Rattle.codewords.specs.Codewords.{agrees}
 use Rattle.solving.proofs.words.agrees_at.Given as goal
 
 -- the symbol at a place, and what is read at its index

@@ -9,7 +9,6 @@ use lib.Dec.{leb}
 use lib.ListN.{length, take, drop, replicate}
 use lib.Seq.{length-take-le}
 use Rattle.solving.specs.Tests.{room}
-use borrow.Author.Rules.{rules}
 use Rattle.solving.proofs.work.clear_room.Goals as goal
 
 -- a part of at most the room has the length that it says

@@ -5,7 +5,6 @@ use lib.Dec.{eqb}
 use lib.ListN.{take}
 use Rattle.field.specs.Galois.{galois}
 use Rattle.elliptic.specs.Pair.{evaluate}
-use borrow.Author.Rules.{rules}
 use Rattle.solving.proofs.zero.zero_at.Goals as goal
 
 pub returns : goal.returns

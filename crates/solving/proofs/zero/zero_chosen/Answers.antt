@@ -1,5 +1,4 @@
 -- The value with the index itself.
-use borrow.Author.Rules.{rules}
 use Rattle.solving.proofs.zero.zero_chosen.Goals as goal
 
 pub returns : goal.returns

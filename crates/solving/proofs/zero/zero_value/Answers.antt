@@ -1,5 +1,4 @@
 -- The case that was taken is the one of the definition.
-use borrow.Author.Rules.{rules}
 use Rattle.solving.proofs.zero.zero_value.Goals as goal
 
 pub returns-then-turned : goal.returns-then-turned

@@ -1,11 +1,6 @@
-use Prim.Native.Nat.{◌-◌}
-use mathlib.Core.Path.{◌≡◌, refl, sym, ◌∙◌}
+use mathlib.Core.Path.{refl, sym, ◌∙◌}
 use native.Mathlib.Omega.{arith}
-use borrow.Author.Tests.{not-true, not-false}
-use lib.ListN.{length, drop}
-use Rattle.text.specs.Reading.{stripped}
 use Rattle.text.proofs.Texts.{key_fails, key_turn, key_ends, next_there}
-use borrow.Author.Rules.{rules}
 use Rattle.text.proofs.reading.after_key.Goals as goal
 
 pub loop-i-init : goal.loop-i-init

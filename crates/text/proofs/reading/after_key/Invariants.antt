@@ -1,12 +1,8 @@
 -- The loop's invariant: what is left of the key decides.
 use Prim.Native.Nat.{◌-◌}
-use mathlib.Core.Path.{◌≡◌, refl, sym, ◌∙◌}
-use native.Mathlib.Omega.{arith}
-use borrow.Author.Tests.{not-true, not-false}
+use mathlib.Core.Path.{◌≡◌}
 use lib.ListN.{length, drop}
 use Rattle.text.specs.Reading.{stripped}
-use Rattle.text.proofs.Texts.{key_fails, key_turn, key_ends, next_there}
-use borrow.Author.Rules.{rules}
 use Rattle.text.proofs.reading.after_key.Given as goal
 
 abbrev pub invariant-loop-i : goal.invariant-loop-i

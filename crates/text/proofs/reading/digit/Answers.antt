@@ -5,7 +5,6 @@ use native.Mathlib.Omega.{arith}
 use borrow.Author.Tests.{leb-true}
 use lib.Dec.{leb}
 use Rattle.basics.proofs.Lists.{both}
-use borrow.Author.Rules.{rules}
 use Rattle.text.proofs.reading.digit.Goals as goal
 
 range : (c : goal.Start) → (48 ≤ c.args.b) × (c.args.b ≤ 57)

@@ -2,7 +2,6 @@
 use mathlib.Core.Path.{sym}
 use native.Mathlib.Omega.{arith}
 use Rattle.text.proofs.Texts.{next_in, next_past}
-use borrow.Author.Rules.{rules}
 use Rattle.text.proofs.reading.is_next.Goals as goal
 
 pub returns-then-s-at : goal.returns-then-s-at

@@ -1,12 +1,9 @@
-use Prim.Native.Nat.{◌-◌, ◌<◌}
 use mathlib.Core.Bool.{true}
 use mathlib.Core.Path.{◌≡◌, refl, sym, ◌∙◌}
 use native.Mathlib.Omega.{arith}
-use borrow.Author.Tests.{not-true, not-false}
-use lib.ListN.{length, get_or, drop}
-use Rattle.text.specs.Reading.{is_digit, more}
+use lib.ListN.{get_or}
+use Rattle.text.specs.Reading.{is_digit}
 use Rattle.text.proofs.Texts.{digits_end, digits_stop, behind_zero, too_large, digit_turn}
-use borrow.Author.Rules.{rules}
 use Rattle.text.proofs.reading.more_digits.Goals as goal
 
 pub loop-at-init : goal.loop-at-init
@@ -44,11 +41,10 @@ is_one_4 : (c : goal.Else-value-ge65536) → is_digit (get_or c.args.s.now c.loo
 is_one_4 c = sym c.is_digit.ensures ∙ c.if-not-is_digit.false
 
 pub loop-at-preserved : goal.loop-at-preserved
-loop-at-preserved c =
-    (
-      omega arith,
-      rw c.digit.ensures.0 (digit_turn c.args.s.now c.loop-at.value c.loop-at.at c.loop-at.invariant.1 (omega arith) (is_one_4 c) c.if-value-eq0.false (omega (arith, c.digit.ensures.0, c.if-value-ge65536.false))),
-    )
+loop-at-preserved c = (
+  omega arith,
+  rw c.digit.ensures.0 (digit_turn c.args.s.now c.loop-at.value c.loop-at.at c.loop-at.invariant.1 (omega arith) (is_one_4 c) c.if-value-eq0.false (omega (arith, c.digit.ensures.0, c.if-value-ge65536.false))),
+)
 
 pub returns : goal.returns
 returns c =

@@ -8,7 +8,6 @@ use lib.Seq.{length-take-le, take_all}
 use Rattle.text.specs.Reading.{got, line}
 use Rattle.text.specs.Stages.{list_in}
 use Rattle.text.proofs.Lines.{no_line, other_count, right_count_lem}
-use borrow.Author.Rules.{rules}
 use Rattle.text.proofs.reading.read_exactly.Goals as goal
 
 pub returns-in_default : goal.returns-in_default
@@ -16,7 +15,7 @@ returns-in_default c =
     no_line c.args.key.now (length c.args.out.now) (drop c.args.start c.args.s.now) (sym c.read_line-listed.ensures.reads ∙ ap (list_in c.args.s.now _) c.in_default.is)
 
 is-line : (c : goal.Then-count-out) →
- line c.args.key.now (length c.args.out.now) (drop c.args.start c.args.s.now) ≡ got (take c.in-Count.count c.read_line-listed.new.out) (drop c.in-Count.next c.args.s.now)
+    line c.args.key.now (length c.args.out.now) (drop c.args.start c.args.s.now) ≡ got (take c.in-Count.count c.read_line-listed.new.out) (drop c.in-Count.next c.args.s.now)
 is-line c = sym c.read_line-listed.ensures.reads ∙ ap (list_in c.args.s.now c.read_line-listed.new.out) c.in-Count.is
 
 few : (c : goal.Then-count-out) → c.in-Count.count ≤ length c.read_line-listed.new.out
@@ -28,7 +27,7 @@ returns-then-count-out c =
     (λ e. c.if-count-out.true (omega (arith, e, few c, length-take-le c.in-Count.count c.read_line-listed.new.out (few c), c.read_line-listed.auto.out)))
 
 is-line_2 : (c : goal.Else-count-out) →
- line c.args.key.now (length c.args.out.now) (drop c.args.start c.args.s.now) ≡ got (take c.in-Count.count c.read_line-listed.new.out) (drop c.in-Count.next c.args.s.now)
+    line c.args.key.now (length c.args.out.now) (drop c.args.start c.args.s.now) ≡ got (take c.in-Count.count c.read_line-listed.new.out) (drop c.in-Count.next c.args.s.now)
 is-line_2 c = sym c.read_line-listed.ensures.reads ∙ ap (list_in c.args.s.now c.read_line-listed.new.out) c.in-Count.is
 
 few_2 : (c : goal.Else-count-out) → c.in-Count.count ≤ length c.read_line-listed.new.out

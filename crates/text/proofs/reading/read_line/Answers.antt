@@ -3,7 +3,6 @@ use Prim.{tt}
 use mathlib.Core.Bool.{true}
 use mathlib.Core.Path.{◌≡◌, sym, ◌∙◌, ap}
 use native.Mathlib.Omega.{arith}
-use borrow.Author.Tests.{not-true, not-false}
 use lib.ListN.{length, take, drop}
 use Rattle.text.specs.Text.{line_end}
 use Rattle.text.specs.Reading.{got, is_next, stripped, numbers}
@@ -11,7 +10,6 @@ use Rattle.text.specs.Stages.{found_in, list_in}
 use Rattle.text.proofs.Texts.{next_there, behind}
 use Rattle.text.proofs.Numbers.{lists_none}
 use Rattle.text.proofs.Lines.{no_key, no_list, no_end, whole_line}
-use borrow.Author.Rules.{rules}
 use Rattle.text.proofs.reading.read_line.Goals as goal
 
 pub returns-in_default : goal.returns-in_default
@@ -31,7 +29,7 @@ found-key_2 : (c : goal.Then-not-is_next) → stripped c.args.key.now (drop c.ar
 found-key_2 c = sym c.after_key-found.ensures ∙ ap (found_in c.args.s.now) c.in-At.is
 
 read-list : (c : goal.Then-not-is_next) →
- numbers (length c.args.out.now) (drop c.in-At.at c.args.s.now) ≡ got (take c.in-Count.count c.read_numbers-listed.new.out) (drop c.in-Count.next c.args.s.now)
+    numbers (length c.args.out.now) (drop c.in-At.at c.args.s.now) ≡ got (take c.in-Count.count c.read_numbers-listed.new.out) (drop c.in-Count.next c.args.s.now)
 read-list c = sym c.read_numbers-listed.ensures.reads ∙ ap (list_in c.args.s.now c.read_numbers-listed.new.out) c.in-Count.is
 
 pub returns-then-not-is_next : goal.returns-then-not-is_next
@@ -50,7 +48,7 @@ found-key_3 : (c : goal.Else-not-is_next) → stripped c.args.key.now (drop c.ar
 found-key_3 c = sym c.after_key-found.ensures ∙ ap (found_in c.args.s.now) c.in-At.is
 
 read-list_2 : (c : goal.Else-not-is_next) →
- numbers (length c.args.out.now) (drop c.in-At.at c.args.s.now) ≡ got (take c.in-Count.count c.read_numbers-listed.new.out) (drop c.in-Count.next c.args.s.now)
+    numbers (length c.args.out.now) (drop c.in-At.at c.args.s.now) ≡ got (take c.in-Count.count c.read_numbers-listed.new.out) (drop c.in-Count.next c.args.s.now)
 read-list_2 c = sym c.read_numbers-listed.ensures.reads ∙ ap (list_in c.args.s.now c.read_numbers-listed.new.out) c.in-Count.is
 
 pub returns : goal.returns

@@ -1,9 +1,7 @@
 -- A digit, and then those behind it.
 use mathlib.Core.Path.{sym, ◌∙◌}
 use native.Mathlib.Omega.{arith}
-use borrow.Author.Tests.{not-true, not-false}
 use Rattle.text.proofs.Texts.{no_number, no_digit, first_digit}
-use borrow.Author.Rules.{rules}
 use Rattle.text.proofs.reading.read_number.Goals as goal
 
 pub returns-then-s-start : goal.returns-then-s-start

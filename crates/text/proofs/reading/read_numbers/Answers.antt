@@ -1,13 +1,10 @@
-use Prim.Native.Nat.{◌-◌, ◌≤◌}
 use mathlib.Core.Path.{◌≡◌, refl, sym, ◌∙◌, ap}
 use native.Mathlib.Omega.{arith}
-use borrow.Author.Tests.{not-true, not-false}
 use lib.ListN.{length, take, drop, length-set}
-use Rattle.text.specs.Reading.{got, before, number, numbers}
+use Rattle.text.specs.Reading.{got, number}
 use Rattle.text.specs.Stages.{number_in}
 use Rattle.text.proofs.Texts.{next_there, behind}
 use Rattle.text.proofs.Numbers.{full, no_more, last_number, next_number, start, lists_none, one_set, lists_last}
-use borrow.Author.Rules.{rules}
 use Rattle.text.proofs.reading.read_numbers.Goals as goal
 
 pub loop-count-init : goal.loop-count-init
@@ -27,7 +24,7 @@ shape_of-out-then-not-is_next c = rw length-set c.loop-count.invariant.0
 
 -- a number was read
 is_number : (c : goal.Then-not-is_next) →
- number (drop c.loop-count.at c.args.s.now) ≡ got c.in-Value.value (drop c.in-Value.next c.args.s.now)
+    number (drop c.loop-count.at c.args.s.now) ≡ got c.in-Value.value (drop c.in-Value.next c.args.s.now)
 is_number c = sym c.read_number-read.ensures ∙ ap (number_in c.args.s.now) c.in-Value.is
 
 pub returns-then-not-is_next : goal.returns-then-not-is_next
@@ -42,18 +39,17 @@ overflow_add-at c =
 
 -- a number was read
 is_number_2 : (c : goal.Else-not-is_next) →
- number (drop c.loop-count.at c.args.s.now) ≡ got c.in-Value.value (drop c.in-Value.next c.args.s.now)
+    number (drop c.loop-count.at c.args.s.now) ≡ got c.in-Value.value (drop c.in-Value.next c.args.s.now)
 is_number_2 c = sym c.read_number-read.ensures ∙ ap (number_in c.args.s.now) c.in-Value.is
 
 pub loop-count-preserved : goal.loop-count-preserved
-loop-count-preserved c =
-    (
-      rw length-set c.loop-count.invariant.0,
-      rw length-set (omega arith),
-      rw (one_set c.loop-count.out c.loop-count.count c.in-Value.value (omega arith), ← behind c.args.s.now c.in-Value.next)
-          (next_number (length c.args.out.now) c.loop-count.count (take c.loop-count.count c.loop-count.out) (drop c.loop-count.at c.args.s.now) c.loop-count.invariant.2 (omega arith) c.in-Value.value _
-          (is_number_2 c) (sym c.is_next.ensures ∙ c.if-not-is_next.false)),
-    )
+loop-count-preserved c = (
+  rw length-set c.loop-count.invariant.0,
+  rw length-set (omega arith),
+  rw (one_set c.loop-count.out c.loop-count.count c.in-Value.value (omega arith), ← behind c.args.s.now c.in-Value.next)
+      (next_number (length c.args.out.now) c.loop-count.count (take c.loop-count.count c.loop-count.out) (drop c.loop-count.at c.args.s.now) c.loop-count.invariant.2 (omega arith) c.in-Value.value _
+      (is_number_2 c) (sym c.is_next.ensures ∙ c.if-not-is_next.false)),
+)
 
 pub shape_of-out : goal.shape_of-out
 shape_of-out c = c.loop-count.invariant.0

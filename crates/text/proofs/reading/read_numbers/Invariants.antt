@@ -1,14 +1,8 @@
 -- The loop's invariant: the numbers read so far stand at the front, and what is left of the text decides.
 use Prim.Native.Nat.{◌-◌, ◌≤◌}
-use mathlib.Core.Path.{◌≡◌, refl, sym, ◌∙◌, ap}
-use native.Mathlib.Omega.{arith}
-use borrow.Author.Tests.{not-true, not-false}
-use lib.ListN.{length, take, drop, length-set}
-use Rattle.text.specs.Reading.{got, before, number, numbers}
-use Rattle.text.specs.Stages.{number_in}
-use Rattle.text.proofs.Texts.{next_there, behind}
-use Rattle.text.proofs.Numbers.{full, no_more, last_number, next_number, start, lists_none, one_set, lists_last}
-use borrow.Author.Rules.{rules}
+use mathlib.Core.Path.{◌≡◌}
+use lib.ListN.{length, take, drop}
+use Rattle.text.specs.Reading.{before, numbers}
 use Rattle.text.proofs.reading.read_numbers.Given as goal
 
 abbrev pub invariant-loop-count : goal.invariant-loop-count

@@ -5,7 +5,6 @@ use Rattle.text.specs.Text.{field_key, curve_key}
 use Rattle.text.specs.Reading.{got, exactly}
 use Rattle.text.specs.Stages.{all_in}
 use Rattle.text.proofs.Sheets.{no_field, no_curve, no_dimension, whole_header}
-use borrow.Author.Rules.{rules}
 use Rattle.text.proofs.sheet.read_header.Goals as goal
 
 pub returns-in_default : goal.returns-in_default
@@ -25,7 +24,7 @@ field-read_2 : (c : goal.In_default-third) → exactly field_key 1 c.args.s.now 
 field-read_2 c = sym c.read_exactly-first.ensures ∙ ap (all_in c.args.s.now c.read_exactly-first.new.out) c.in-At.is
 
 curve-read : (c : goal.In_default-third) →
- exactly curve_key 5 (drop c.in-At.second_line c.args.s.now) ≡ got c.read_exactly-second.new.out (drop c.in-At-second.third_line c.args.s.now)
+    exactly curve_key 5 (drop c.in-At.second_line c.args.s.now) ≡ got c.read_exactly-second.new.out (drop c.in-At-second.third_line c.args.s.now)
 curve-read c = sym c.read_exactly-second.ensures ∙ ap (all_in c.args.s.now c.read_exactly-second.new.out) c.in-At-second.is
 
 pub returns-in_default-third : goal.returns-in_default-third
@@ -37,7 +36,7 @@ field-read_3 : (c : goal.In-At-third) → exactly field_key 1 c.args.s.now ≡ g
 field-read_3 c = sym c.read_exactly-first.ensures ∙ ap (all_in c.args.s.now c.read_exactly-first.new.out) c.in-At.is
 
 curve-read_2 : (c : goal.In-At-third) →
- exactly curve_key 5 (drop c.in-At.second_line c.args.s.now) ≡ got c.read_exactly-second.new.out (drop c.in-At-second.third_line c.args.s.now)
+    exactly curve_key 5 (drop c.in-At.second_line c.args.s.now) ≡ got c.read_exactly-second.new.out (drop c.in-At-second.third_line c.args.s.now)
 curve-read_2 c = sym c.read_exactly-second.ensures ∙ ap (all_in c.args.s.now c.read_exactly-second.new.out) c.in-At-second.is
 
 pub returns : goal.returns

@@ -6,7 +6,6 @@ use Rattle.text.specs.Text.{places_key, message_key}
 use Rattle.text.specs.Reading.{got, line}
 use Rattle.text.specs.Stages.{list_in}
 use Rattle.text.proofs.Sheets.{none, no_places, no_message, more_text, all_read}
-use borrow.Author.Rules.{rules}
 use Rattle.text.proofs.sheet.read_lists.Goals as goal
 
 pub returns-in_default : goal.returns-in_default
@@ -16,7 +15,7 @@ returns-in_default c =
 
 -- what was read so far
 places-read : (c : goal.In_default-second) →
- line places_key 288 (drop c.args.start c.args.s.now) ≡ got (take c.in-Count.many c.read_line-first.new.out) (drop c.in-Count.next c.args.s.now)
+    line places_key 288 (drop c.args.start c.args.s.now) ≡ got (take c.in-Count.many c.read_line-first.new.out) (drop c.in-Count.next c.args.s.now)
 places-read c = rw c.requires.0 at (sym c.read_line-first.ensures.reads ∙ ap (list_in c.args.s.now c.read_line-first.new.out) c.in-Count.is)
 
 pub returns-in_default-second : goal.returns-in_default-second
@@ -26,11 +25,11 @@ returns-in_default-second c =
 
 -- what was read so far
 places-read_2 : (c : goal.Then-end-s) →
- line places_key 288 (drop c.args.start c.args.s.now) ≡ got (take c.in-Count.many c.read_line-first.new.out) (drop c.in-Count.next c.args.s.now)
+    line places_key 288 (drop c.args.start c.args.s.now) ≡ got (take c.in-Count.many c.read_line-first.new.out) (drop c.in-Count.next c.args.s.now)
 places-read_2 c = rw c.requires.0 at (sym c.read_line-first.ensures.reads ∙ ap (list_in c.args.s.now c.read_line-first.new.out) c.in-Count.is)
 
 message-read : (c : goal.Then-end-s) →
- line message_key 288 (drop c.in-Count.next c.args.s.now) ≡ got (take c.in-Count-second.count c.read_line-second.new.out) (drop c.in-Count-second.end c.args.s.now)
+    line message_key 288 (drop c.in-Count.next c.args.s.now) ≡ got (take c.in-Count-second.count c.read_line-second.new.out) (drop c.in-Count-second.end c.args.s.now)
 message-read c = rw c.requires.1 at (sym c.read_line-second.ensures.reads ∙ ap (list_in c.args.s.now c.read_line-second.new.out) c.in-Count-second.is)
 
 pub returns-then-end-s : goal.returns-then-end-s
@@ -40,11 +39,11 @@ returns-then-end-s c =
 
 -- what was read so far
 places-read_3 : (c : goal.Else-end-s) →
- line places_key 288 (drop c.args.start c.args.s.now) ≡ got (take c.in-Count.many c.read_line-first.new.out) (drop c.in-Count.next c.args.s.now)
+    line places_key 288 (drop c.args.start c.args.s.now) ≡ got (take c.in-Count.many c.read_line-first.new.out) (drop c.in-Count.next c.args.s.now)
 places-read_3 c = rw c.requires.0 at (sym c.read_line-first.ensures.reads ∙ ap (list_in c.args.s.now c.read_line-first.new.out) c.in-Count.is)
 
 message-read_2 : (c : goal.Else-end-s) →
- line message_key 288 (drop c.in-Count.next c.args.s.now) ≡ got (take c.in-Count-second.count c.read_line-second.new.out) (drop c.in-Count-second.end c.args.s.now)
+    line message_key 288 (drop c.in-Count.next c.args.s.now) ≡ got (take c.in-Count-second.count c.read_line-second.new.out) (drop c.in-Count-second.end c.args.s.now)
 message-read_2 c = rw c.requires.1 at (sym c.read_line-second.ensures.reads ∙ ap (list_in c.args.s.now c.read_line-second.new.out) c.in-Count-second.is)
 
 pub returns : goal.returns

@@ -3,7 +3,6 @@ use mathlib.Core.Path.{sym, ◌∙◌, ap}
 use native.Mathlib.Omega.{arith}
 use Rattle.text.specs.Stages.{header_in}
 use Rattle.text.proofs.Sheets.{none, too_long, no_header, as_lists}
-use borrow.Author.Rules.{rules}
 use Rattle.text.proofs.sheet.read_sheet.Goals as goal
 
 pub returns-then-s-gt-MOST : goal.returns-then-s-gt-MOST

@@ -1,6 +1,5 @@
 -- The byte goes behind what was written.
 use Rattle.text.proofs.Appending.{put_one}
-use borrow.Author.Rules.{rules}
 use Rattle.text.proofs.writing.put.Goals as goal
 
 pub returns : goal.returns

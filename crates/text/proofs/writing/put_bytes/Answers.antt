@@ -1,10 +1,9 @@
-use Prim.Native.Nat.{◌+◌, ◌-◌}
+use Prim.Native.Nat.{◌+◌}
 use mathlib.Core.List.{[], ◌∷◌}
 use native.Mathlib.Omega.{arith}
-use lib.ListN.{length, get_or, drop}
+use lib.ListN.{get_or, drop}
 use Rattle.basics.proofs.Loops.{next}
-use Rattle.text.proofs.Appending.{Leads, leads_start, leads_room, leads_on, leads_done, leads_as}
-use borrow.Author.Rules.{rules}
+use Rattle.text.proofs.Appending.{leads_start, leads_room, leads_on, leads_done, leads_as}
 use Rattle.text.proofs.writing.put_bytes.Goals as goal
 
 pub loop-i-init : goal.loop-i-init

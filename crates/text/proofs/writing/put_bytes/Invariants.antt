@@ -1,11 +1,7 @@
 -- The loop's invariant: what is left of the bytes completes them.
-use Prim.Native.Nat.{◌+◌, ◌-◌}
-use mathlib.Core.List.{[], ◌∷◌}
-use native.Mathlib.Omega.{arith}
-use lib.ListN.{length, get_or, drop}
-use Rattle.basics.proofs.Loops.{next}
-use Rattle.text.proofs.Appending.{Leads, leads_start, leads_room, leads_on, leads_done, leads_as}
-use borrow.Author.Rules.{rules}
+use Prim.Native.Nat.{◌-◌}
+use lib.ListN.{length, drop}
+use Rattle.text.proofs.Appending.{Leads}
 use Rattle.text.proofs.writing.put_bytes.Given as goal
 
 abbrev pub invariant-loop-i : goal.invariant-loop-i

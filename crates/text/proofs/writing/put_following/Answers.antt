@@ -1,11 +1,10 @@
-use Prim.Native.Nat.{◌+◌, ◌-◌, ◌<◌}
+use Prim.Native.Nat.{◌+◌, ◌<◌}
 use mathlib.Core.List.{[], ◌∷◌, ◌++◌}
 use native.Mathlib.Omega.{arith}
 use lib.ListN.{length, get_or, drop}
 use Rattle.text.specs.Text.{comma, decimal, following}
 use Rattle.text.specs.Stages.{Appends}
 use Rattle.text.proofs.Appending.{Leads, leads_start, leads_room, leads_on, leads_end, leads_as, following_next, following_done}
-use borrow.Author.Rules.{rules}
 use Rattle.text.proofs.writing.put_following.Goals as goal
 
 pub loop-i-init : goal.loop-i-init
@@ -13,7 +12,7 @@ loop-i-init c = leads_start c.requires
 
 -- in a turn, and at the end
 turn : (c : goal.After-put-arg-1) → c.loop-i.i < length c.args.l.now
- → Leads ((comma ∷ []) ++ (decimal (get_or c.args.l.now c.loop-i.i 0) ++ following (drop (c.loop-i.i + 1) c.args.l.now))) c.loop-i.out c.loop-i.at (following c.args.l.now) c.args.out.now c.args.start
+    → Leads ((comma ∷ []) ++ (decimal (get_or c.args.l.now c.loop-i.i 0) ++ following (drop (c.loop-i.i + 1) c.args.l.now))) c.loop-i.out c.loop-i.at (following c.args.l.now) c.args.out.now c.args.start
 turn c h = leads_as (following_next c.args.l.now c.loop-i.i h) c.loop-i.invariant
 
 pub put-next-requires : goal.put-next-requires
@@ -22,7 +21,7 @@ put-next-requires c =
 
 -- in a turn, and at the end
 turn_2 : (c : goal.After-shared_slice_known-in-loop-i-1) → c.loop-i.i < length c.args.l.now
- → Leads ((comma ∷ []) ++ (decimal (get_or c.args.l.now c.loop-i.i 0) ++ following (drop (c.loop-i.i + 1) c.args.l.now))) c.loop-i.out c.loop-i.at (following c.args.l.now) c.args.out.now c.args.start
+    → Leads ((comma ∷ []) ++ (decimal (get_or c.args.l.now c.loop-i.i 0) ++ following (drop (c.loop-i.i + 1) c.args.l.now))) c.loop-i.out c.loop-i.at (following c.args.l.now) c.args.out.now c.args.start
 turn_2 c h = leads_as (following_next c.args.l.now c.loop-i.i h) c.loop-i.invariant
 
 pub put_number-at-requires : goal.put_number-at-requires
@@ -33,7 +32,7 @@ put_number-at-requires c =
 
 -- in a turn, and at the end
 turn_3 : (c : goal.After-slice_known-in-loop-i-2-1) → c.loop-i.i < length c.args.l.now
- → Leads ((comma ∷ []) ++ (decimal (get_or c.args.l.now c.loop-i.i 0) ++ following (drop (c.loop-i.i + 1) c.args.l.now))) c.loop-i.out c.loop-i.at (following c.args.l.now) c.args.out.now c.args.start
+    → Leads ((comma ∷ []) ++ (decimal (get_or c.args.l.now c.loop-i.i 0) ++ following (drop (c.loop-i.i + 1) c.args.l.now))) c.loop-i.out c.loop-i.at (following c.args.l.now) c.args.out.now c.args.start
 turn_3 c h = leads_as (following_next c.args.l.now c.loop-i.i h) c.loop-i.invariant
 
 pub loop-i-preserved : goal.loop-i-preserved

@@ -4,7 +4,6 @@ use mathlib.Core.List.{[], ◌∷◌, ◌++◌}
 use native.Mathlib.Omega.{arith}
 use Rattle.text.specs.Text.{line_end, joined, line_of}
 use Rattle.text.proofs.Appending.{Leads, leads_start, leads_room, leads_on, leads_last}
-use borrow.Author.Rules.{rules}
 use Rattle.text.proofs.writing.put_line.Goals as goal
 
 -- what is left to write

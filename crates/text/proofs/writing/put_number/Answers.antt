@@ -5,7 +5,6 @@ use mathlib.Core.List.{[], ◌∷◌}
 use native.Mathlib.Omega.{arith}
 use Rattle.text.proofs.Appending.{leads_start, leads_on, leads_last}
 use Rattle.text.proofs.Digits.{one_digit, two_digits, three_digits}
-use borrow.Author.Rules.{rules}
 use Rattle.text.proofs.writing.put_number.Goals as goal
 
 pub put-requires : goal.put-requires

@@ -4,7 +4,6 @@ use mathlib.Core.Path.{refl}
 use mathlib.Core.List.{[], ◌∷◌}
 use native.Mathlib.Omega.{arith}
 use Rattle.text.proofs.Appending.{leads_start, leads_on, leads_last}
-use borrow.Author.Rules.{rules}
 use Rattle.text.proofs.writing.put_two.Goals as goal
 
 pub returns : goal.returns

@@ -1,6 +1,5 @@
 -- The part of the list of all places has n of them.
 use Rattle.trials.proofs.Parts.{part}
-use borrow.Author.Rules.{rules}
 use Rattle.trials.proofs.choose.at_random.Goals as goal
 
 pub slice_bounds-first_shuffled-end : goal.slice_bounds-first_shuffled-end

@@ -1,7 +1,6 @@
 -- The loop ends, and no more is counted than was passed.
 use Prim.Native.Nat.{◌-◌, ◌≤◌}
 use lib.ListN.{length}
-use borrow.Author.Rules.{rules}
 use Rattle.trials.proofs.lists.count.Given as goal
 
 abbrev pub invariant-loop-i : goal.invariant-loop-i

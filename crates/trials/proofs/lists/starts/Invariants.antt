@@ -1,7 +1,6 @@
 -- The loop ends, and stays within the list.
 use Prim.Native.Nat.{◌-◌}
 use lib.ListN.{length}
-use borrow.Author.Rules.{rules}
 use Rattle.trials.proofs.lists.starts.Given as goal
 
 abbrev pub invariant-loop-i : goal.invariant-loop-i

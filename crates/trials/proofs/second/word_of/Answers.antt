@@ -1,6 +1,5 @@
 -- Every part of a list of 288 is as long as its number of entries.
 use Rattle.trials.proofs.Parts.{part}
-use borrow.Author.Rules.{rules}
 use Rattle.trials.proofs.second.word_of.Goals as goal
 
 pub slice_bounds-find-end : goal.slice_bounds-find-end

@@ -1,9 +1,7 @@
-use Prim.Native.Nat.{◌-◌, ◌≤◌}
 use mathlib.Core.Path.{◌≡◌, ◌∙◌}
 use native.Mathlib.Omega.{arith}
-use Rattle.tries.proofs.Choosing.{Tried, tried_start, tried_takes, tried_keeps}
+use Rattle.tries.proofs.Choosing.{tried_start, tried_takes, tried_keeps}
 use Rattle.tries.specs.Multiples.{Priced}
-use borrow.Author.Rules.{rules}
 use Rattle.tries.proofs.choose.choose.Goals.{then-c-cost, else-c-cost}
 use Rattle.tries.proofs.choose.choose.Goals as goal
 
@@ -21,12 +19,11 @@ multiple_of-e-requires c =
 
 pub loop-j-preserved : goal.loop-j-preserved
 loop-j-preserved c =
-    let best : Priced = (c.args.best.cost, c.args.best.e) in
-    (
+    let best : Priced = (c.args.best.cost, c.args.best.e) in (
       omega (arith, c.loop-j.invariant.0),
       omega (arith, c.loop-j-test.true),
       elim c.if-c-cost.branch [
-        then-c-cost w ↦ tried_takes c.args.fixed c.args.slots.now c.args.half c.args.from best c.loop-j.invariant.0 c.loop-j.invariant.2 w.if-c-cost.true w.cost-is (w.e-is ∙ w.multiple_of-e.ensures)
+        | then-c-cost w ↦ tried_takes c.args.fixed c.args.slots.now c.args.half c.args.from best c.loop-j.invariant.0 c.loop-j.invariant.2 w.if-c-cost.true w.cost-is (w.e-is ∙ w.multiple_of-e.ensures)
         | else-c-cost w ↦ tried_keeps c.args.fixed c.args.slots.now c.args.half c.args.from best c.loop-j.invariant.0 c.loop-j.invariant.2 w.if-c-cost.false w.cost-is w.e-is
       ],
     )

@@ -1,11 +1,6 @@
 -- The loop's invariant: what it has is the cheapest of the tries so far.
 use Prim.Native.Nat.{◌-◌, ◌≤◌}
-use mathlib.Core.Logic.{⊎_elim}
-use mathlib.Core.Path.{◌≡◌, ◌∙◌}
-use native.Mathlib.Omega.{arith}
-use Rattle.tries.proofs.Choosing.{Tried, tried_start, tried_takes, tried_keeps}
-use Rattle.tries.specs.Multiples.{Priced}
-use borrow.Author.Rules.{rules}
+use Rattle.tries.proofs.Choosing.{Tried}
 use Rattle.tries.proofs.choose.choose.Given as goal
 
 abbrev pub invariant-loop-j : goal.invariant-loop-j

@@ -5,7 +5,6 @@ use lib.Bits.{bit_or}
 use lib.Dec.{eqb}
 use Rattle.field.specs.Galois.{galois}
 use Rattle.tries.proofs.Gathering.{bit_le, always_bit}
-use borrow.Author.Rules.{rules}
 use Rattle.tries.proofs.gather.always.Goals as goal
 
 pub overflow_mul-result : goal.overflow_mul-result

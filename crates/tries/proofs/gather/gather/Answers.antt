@@ -1,9 +1,9 @@
-use Prim.Native.Nat.{◌-◌, ◌<◌, ◌≤◌}
+use Prim.Native.Nat.{◌<◌}
 use native.Mathlib.Omega.{arith}
 use lib.Bits.{bit_xor}
-use lib.ListN.{length, get_or}
+use lib.ListN.{get_or}
 use Rattle.field.specs.Galois.{galois}
-use Rattle.tries.proofs.Gathering.{Passing, pass_start, pass_room, pass_end, pass_turn, always_le}
+use Rattle.tries.proofs.Gathering.{pass_start, pass_room, pass_end, pass_turn, always_le}
 use Rattle.tries.proofs.gather.gather.Goals as goal
 
 pub loop-i-init : goal.loop-i-init
@@ -60,12 +60,11 @@ pub loop-i-smaller : goal.loop-i-smaller
 loop-i-smaller c = omega (arith, c.loop-i-test.true)
 
 pub loop-i-preserved : goal.loop-i-preserved
-loop-i-preserved c =
-    (
-      omega (arith, c.loop-i-test.true),
-      pass_turn c.args.m c.args.half c.args.log c.args.trusts.now c.args.row.now c.args.late.now c.args.difference.now c.loop-i.invariant.1 c.requires.difference_len.2 c.requires.difference_len.1 c.requires.difference_len.0 c.loop-i-test.true
-          (trust-lt c) c.product_by_log.ensures c.always-more.ensures c.save.ensures,
-    )
+loop-i-preserved c = (
+  omega (arith, c.loop-i-test.true),
+  pass_turn c.args.m c.args.half c.args.log c.args.trusts.now c.args.row.now c.args.late.now c.args.difference.now c.loop-i.invariant.1 c.requires.difference_len.2 c.requires.difference_len.1 c.requires.difference_len.0 c.loop-i-test.true
+      (trust-lt c) c.product_by_log.ensures c.always-more.ensures c.save.ensures,
+)
 
 pub returns : goal.returns
 returns c =

@@ -1,10 +1,7 @@
 -- The loop's invariant: what is done, and what the rest adds, is all.
-use Prim.Native.Nat.{◌-◌, ◌<◌, ◌≤◌}
-use native.Mathlib.Omega.{arith}
-use lib.Bits.{bit_xor}
-use lib.ListN.{length, get_or}
-use Rattle.field.specs.Galois.{galois}
-use Rattle.tries.proofs.Gathering.{Passing, pass_start, pass_room, pass_end, pass_turn, always_le}
+use Prim.Native.Nat.{◌-◌, ◌≤◌}
+use lib.ListN.{length}
+use Rattle.tries.proofs.Gathering.{Passing}
 use Rattle.tries.proofs.gather.gather.Given as goal
 
 abbrev pub invariant-loop-i : goal.invariant-loop-i

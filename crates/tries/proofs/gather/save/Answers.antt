@@ -4,7 +4,6 @@ use native.Mathlib.Omega.{arith}
 use lib.Dec.{eqb}
 use mir.Val.{bool_byte}
 use Rattle.tries.proofs.Gathering.{bit_le, saved_at}
-use borrow.Author.Rules.{rules}
 use Rattle.tries.proofs.gather.save.Goals as goal
 
 -- what is added is at most the trust

@@ -8,7 +8,6 @@ use Rattle.elliptic.specs.Pair.{add_scaled}
 use Rattle.field.specs.Galois.{galois}
 use Rattle.tries.specs.Gathered.{Gathered}
 use Rattle.tries.proofs.Choosing.{within, slots_tell}
-use borrow.Author.Rules.{rules}
 use Rattle.tries.proofs.multiples.try_half.Goals as goal
 
 pub gather-fixed-requires : goal.gather-fixed-requires
@@ -16,8 +15,8 @@ gather-fixed-requires c =
     record { tables = (c.requires.tables, rw c.logarithm-log.ensures (is_log c.requires.tables.field c.args.d (omega (arith, c.requires.rows.1, size_le c.requires.tables.field)))); difference_len = (c.requires.rows.0.differences, c.requires.rows.0.lates, c.requires.rows.0.rows, c.requires.rows.0.most, refl) }
 
 gathered : (c : goal.After-slots-2-1) →
- Gathered c.args.m c.args.half c.args.trusts.now c.args.row.now (add_scaled (galois c.args.m) c.args.d c.args.late.now c.args.difference.now)
- c.gather-fixed.result c.gather-fixed.new.slots
+    Gathered c.args.m c.args.half c.args.trusts.now c.args.row.now (add_scaled (galois c.args.m) c.args.d c.args.late.now c.args.difference.now)
+    c.gather-fixed.result c.gather-fixed.new.slots
 gathered c =
     c.gather-fixed.ensures c.args.d (λ b.
     ap (λ k. product_by_log c.args.m k b) c.logarithm-log.ensures ∙ by_log c.requires.tables.field c.args.d b (omega (arith, c.requires.rows.1, size_le c.requires.tables.field)))
@@ -27,8 +26,8 @@ choose-requires c =
     (c.requires.rows.2.ordered, c.requires.rows.2.most, c.requires.rows.2.is_half, within c.requires.tables.field c.requires.rows.0 c.args.d (gathered c) c.requires.rows.2)
 
 gathered_2 : (c : goal.After-choose) →
- Gathered c.args.m c.args.half c.args.trusts.now c.args.row.now (add_scaled (galois c.args.m) c.args.d c.args.late.now c.args.difference.now)
- c.gather-fixed.result c.gather-fixed.new.slots
+    Gathered c.args.m c.args.half c.args.trusts.now c.args.row.now (add_scaled (galois c.args.m) c.args.d c.args.late.now c.args.difference.now)
+    c.gather-fixed.result c.gather-fixed.new.slots
 gathered_2 c =
     c.gather-fixed.ensures c.args.d (λ b.
     ap (λ k. product_by_log c.args.m k b) c.logarithm-log.ensures ∙ by_log c.requires.tables.field c.args.d b (omega (arith, c.requires.rows.1, size_le c.requires.tables.field)))

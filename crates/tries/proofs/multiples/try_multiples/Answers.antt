@@ -6,7 +6,6 @@ use mathlib.Core.Path.{◌≡◌, refl, sym, ◌∙◌, ap}
 use Rattle.field.specs.Galois.{galois, size}
 use Rattle.elliptic.specs.Pair.{add_scaled}
 use Rattle.tries.proofs.Choosing.{tried_one, tried_both, in_one, in_low, in_high}
-use borrow.Author.Rules.{rules}
 use Rattle.tries.proofs.multiples.try_multiples.Goals.{then-most-all, else-most-all}
 use Rattle.tries.proofs.multiples.try_multiples.Goals as goal
 
@@ -21,7 +20,7 @@ try_half-requires c =
 counted : (c : goal.After-try_half) → c.if-most-all.count ≡ min c.args.most (size c.args.m - 1)
 counted c =
     elim c.if-most-all.branch [
-      then-most-all w ↦ w.count-is ∙ sym (min-eq_left (omega (arith, w.if-most-all.true, c.size-all.ensures)))
+      | then-most-all w ↦ w.count-is ∙ sym (min-eq_left (omega (arith, w.if-most-all.true, c.size-all.ensures)))
       | else-most-all w ↦ w.count-is ∙ ap (λ n. n - 1) c.size-all.ensures ∙ sym (min-eq_right (omega (arith, w.if-most-all.false, c.size-all.ensures)))
     ]
 
@@ -49,7 +48,7 @@ try_half-requires-2 c =
 counted_2 : (c : goal.After-try_half-2) → c.if-most-all.count ≡ min c.args.most (size c.args.m - 1)
 counted_2 c =
     elim c.if-most-all.branch [
-      then-most-all w ↦ w.count-is ∙ sym (min-eq_left (omega (arith, w.if-most-all.true, c.size-all.ensures)))
+      | then-most-all w ↦ w.count-is ∙ sym (min-eq_left (omega (arith, w.if-most-all.true, c.size-all.ensures)))
       | else-most-all w ↦ w.count-is ∙ ap (λ n. n - 1) c.size-all.ensures ∙ sym (min-eq_right (omega (arith, w.if-most-all.false, c.size-all.ensures)))
     ]
 

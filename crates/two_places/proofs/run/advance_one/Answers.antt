@@ -1,7 +1,6 @@
 -- One step is a way to go on.
 use native.Mathlib.Omega.{arith}
 use Rattle.two_places.proofs.Runs.{advances_one}
-use borrow.Author.Rules.{rules}
 use Rattle.two_places.proofs.run.advance_one.Goals as goal
 
 pub pair_step-sizes-requires : goal.pair_step-sizes-requires

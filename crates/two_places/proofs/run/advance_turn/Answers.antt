@@ -1,6 +1,5 @@
 -- The arrays are handed on in the order L, U.
 use Rattle.two_places.proofs.Runs.{advances_round}
-use borrow.Author.Rules.{rules}
 use Rattle.two_places.proofs.run.advance_turn.Goals as goal
 
 pub returns-then-turned : goal.returns-then-turned

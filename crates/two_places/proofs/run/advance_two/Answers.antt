@@ -2,18 +2,16 @@
 use mathlib.Core.Bool.{true}
 use mathlib.Core.Path.{◌≡◌}
 use native.Mathlib.Omega.{arith}
-use borrow.Author.Tests.{not-false}
 use Rattle.two_places.specs.Turns.{Turns}
 use Rattle.two_places.proofs.Turns.{first_steps, room_between}
 use Rattle.two_places.proofs.Runs.{advances_two}
-use borrow.Author.Rules.{rules}
 use Rattle.two_places.proofs.run.advance_two.Goals as goal
 
 pub advance_one-requires : goal.advance_one-requires
 advance_one-requires c = record { tables = c.requires.tables; i_lt_count = (omega (arith, c.requires.i_bound.0), c.requires.i_bound.1, c.requires.i_bound.2, c.requires.i_bound.3) }
 
 turn : (c : goal.After-both_steps-arg-2-1) → (c.after_step-z.result.turned ≡ true) ×
- (Turns c.args.m c.args.xs.now c.args.i c.args.l.now c.args.u.now c.find_factors-w.result)
+    (Turns c.args.m c.args.xs.now c.args.i c.args.l.now c.args.u.now c.find_factors-w.result)
 turn c = let t = c.turns.ensures (c.if-not-turns.false) in
     (t.0, record { are = c.find_factors-w.ensures; some = t.1; next_some = t.2 })
 
@@ -28,7 +26,7 @@ pub overflow_add-result : goal.overflow_add-result
 overflow_add-result c = record { fits = omega (arith, c.requires.i_bound.0, c.requires.i_bound.1, c.requires.i_bound.2) }
 
 turn_2 : (c : goal.After-slice_known-5-1) → (c.after_step-z.result.turned ≡ true) ×
- (Turns c.args.m c.args.xs.now c.args.i c.args.l.now c.args.u.now c.find_factors-w.result)
+    (Turns c.args.m c.args.xs.now c.args.i c.args.l.now c.args.u.now c.find_factors-w.result)
 turn_2 c = let t = c.turns.ensures (c.if-not-turns.false) in
     (t.0, record { are = c.find_factors-w.ensures; some = t.1; next_some = t.2 })
 

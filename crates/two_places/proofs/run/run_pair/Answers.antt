@@ -1,12 +1,6 @@
-use mathlib.Core.List.{[]}
 use mathlib.Core.Path.{◌≡◌, refl, sym, ◌∙◌}
-use Prim.Native.Nat.{◌≤◌, ◌-◌}
 use native.Mathlib.Omega.{arith}
-use lib.ListN.{length}
-use borrow.Author.Rules.{rules}
-use Rattle.field.specs.Galois.{galois}
 use Rattle.elliptic.specs.Pair.{after}
-use Rattle.values.specs.Values.{ShownIn, points_in}
 use Rattle.values.proofs.Runs.{begins, begun_size, fits}
 use Rattle.two_places.proofs.run.run_pair.Goals as goal
 

@@ -1,5 +1,4 @@
 -- What the three calls say, one in the other.
-use borrow.Author.Rules.{rules}
 use Rattle.two_places.proofs.turn.after_step.Goals as goal
 
 pub returns : goal.returns

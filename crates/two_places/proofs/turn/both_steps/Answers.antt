@@ -1,6 +1,5 @@
 -- The pass is the second step on what the first would leave.
 use Rattle.two_places.proofs.Turns.{second_steps, second_passes}
-use borrow.Author.Rules.{rules}
 use Rattle.two_places.proofs.turn.both_steps.Goals as goal
 
 pub returns : goal.returns

@@ -3,7 +3,6 @@ use Prim.Native.Nat.{◌+◌}
 use mathlib.Core.Path.{ap, ◌∙◌}
 use lib.Bits.{bit_xor}
 use lib.ListN.{get_or}
-use borrow.Author.Rules.{rules}
 use Rattle.field.specs.Sum.{◌⊕◌}
 use Rattle.field.specs.Galois.{product, inverse}
 use Rattle.two_places.proofs.turn.find_factors.Goals as goal

@@ -1,7 +1,6 @@
 -- The two cases of a step: L is zero at the place, or it is not.
 use mathlib.Core.Path.{refl}
 use Rattle.values.proofs.Steps.{keeps, steps, keeps_passes, steps_passes}
-use borrow.Author.Rules.{rules}
 use Rattle.values.proofs.pair.pair_step.Goals as goal
 
 pub returns-then-at-eq0 : goal.returns-then-at-eq0

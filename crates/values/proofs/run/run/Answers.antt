@@ -1,12 +1,8 @@
 use mathlib.Core.Path.{◌≡◌, refl, sym, ◌∙◌}
-use Prim.Native.Nat.{◌≤◌, ◌-◌}
 use native.Mathlib.Omega.{arith}
-use lib.ListN.{length, get_or}
-use Rattle.field.specs.Galois.{galois}
+use lib.ListN.{get_or}
 use Rattle.elliptic.specs.Pair.{after}
-use Rattle.values.specs.Values.{Shows, ShownIn, points_in}
 use Rattle.values.proofs.Runs.{begins, begins_word, begun_size, fits, point_more}
-use borrow.Author.Rules.{rules}
 use Rattle.values.proofs.run.run.Goals as goal
 
 pub loop-i-init : goal.loop-i-init

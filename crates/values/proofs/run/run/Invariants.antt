@@ -1,13 +1,10 @@
 -- The loop's invariant: the arrays show the pair and the interpolant of the first i points, at the points from i on.
-use mathlib.Core.Path.{◌≡◌, refl, sym, ◌∙◌}
+use mathlib.Core.Path.{◌≡◌}
 use Prim.Native.Nat.{◌≤◌, ◌-◌}
-use native.Mathlib.Omega.{arith}
-use lib.ListN.{length, get_or}
+use lib.ListN.{length}
 use Rattle.field.specs.Galois.{galois}
 use Rattle.elliptic.specs.Pair.{after}
 use Rattle.values.specs.Values.{Shows, ShownIn, points_in}
-use Rattle.values.proofs.Runs.{begins, begins_word, begun_size, fits, point_more}
-use borrow.Author.Rules.{rules}
 use Rattle.values.proofs.run.run.Given as goal
 
 abbrev pub invariant-loop-i : goal.invariant-loop-i

@@ -1,9 +1,5 @@
-use Prim.Native.Nat.{◌-◌}
 use native.Mathlib.Omega.{arith}
-use lib.ListN.{length}
-use borrow.Author.Rules.{rules}
 use Rattle.engine.proofs.Laws.{logged, by_logged}
-use Rattle.values.specs.Values.{Sweeping, raised_at, gained_at}
 use Rattle.values.proofs.Sweeps.{sweeping_none, sweeping_turn, sweeping_all, raised_by, gained_by}
 use Rattle.values.proofs.sweep.gain_raise.Goals as goal
 

@@ -1,11 +1,7 @@
 -- The loop's invariant: the values behind i are by the rules, and the rest is as it was.
 use Prim.Native.Nat.{◌-◌}
-use native.Mathlib.Omega.{arith}
 use lib.ListN.{length}
-use borrow.Author.Rules.{rules}
-use Rattle.engine.proofs.Laws.{logged, by_logged}
 use Rattle.values.specs.Values.{Sweeping, raised_at, gained_at}
-use Rattle.values.proofs.Sweeps.{sweeping_none, sweeping_turn, sweeping_all, raised_by, gained_by}
 use Rattle.values.proofs.sweep.gain_raise.Given as goal
 
 abbrev pub invariant-loop-i : goal.invariant-loop-i

@@ -1,8 +1,4 @@
-use Prim.Native.Nat.{◌-◌}
 use native.Mathlib.Omega.{arith}
-use lib.ListN.{length}
-use borrow.Author.Rules.{rules}
-use Rattle.values.specs.Values.{Sweeping, raised_at}
 use Rattle.values.proofs.Sweeps.{sweeping_none, sweeping_turn, sweeping_all, raised_by}
 use Rattle.values.proofs.sweep.raise.Goals as goal
 

@@ -2,7 +2,6 @@
 use mathlib.Core.Path.{refl}
 use native.Mathlib.Omega.{arith}
 use Rattle.values.proofs.Steps.{keeps, steps, word_keeps, word_steps}
-use borrow.Author.Rules.{rules}
 use Rattle.values.proofs.word.word_step.Goals as goal
 
 pub returns-then-at-eq0 : goal.returns-then-at-eq0

@@ -1,6 +1,5 @@
 -- The arrays are handed on in the order L, U.
 use Rattle.values.proofs.Steps.{words_round}
-use borrow.Author.Rules.{rules}
 use Rattle.values.proofs.word.word_turn.Goals as goal
 
 pub returns-then-turned : goal.returns-then-turned
