@@ -7,10 +7,12 @@ for crate in crates/*/; do
     name=$(basename "$crate")
     [ -f "$crate/src/lib.rt" ] || continue
     (cd "$crate" && rt check) >target/library.log 2>&1 || { tail -n 40 target/library.log; exit 1; }
-    verdict=$(grep -E '^logic=' target/library.log | tail -n 1)
-    case $verdict in
-    *axioms=* | *foreign=*) echo "$name: $verdict"; exit 1 ;;
-    'logic=proved '*) ;;
-    *) echo "$name has no verdict: $verdict"; exit 1 ;;
-    esac
+    verdicts=$(grep -E '^logic=' target/library.log) || { echo "$name has no verdict"; exit 1; }
+    printf '%s\n' "$verdicts" | while read -r verdict; do
+        case $verdict in
+        *axioms=* | *foreign=*) echo "$name: $verdict"; exit 1 ;;
+        'logic=proved '*) ;;
+        *) echo "$name has no verdict: $verdict"; exit 1 ;;
+        esac
+    done
 done

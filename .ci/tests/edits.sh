@@ -7,7 +7,7 @@ for edit in crates/*/must-fail/*.edit; do
     line=$(grep -F "must-fail $crate/$(basename "$edit"):" target/ci.log || true)
     case $line in
     '') echo "no word on $edit"; unfit=1 ;;
-    *'that can be named from here'* | *'has no field'* | *'is not in scope'*) echo "$line"; unfit=1 ;;
+    *'refused, as it must be (only '* | *'that can be named from here'* | *'has no field'* | *'is not in scope'*) echo "$line"; unfit=1 ;;
     *': refused, as it must be'*) ;;
     *) echo "$line"; unfit=1 ;;
     esac
