@@ -12,18 +12,18 @@ pub returns-then-not-coefficients_below : goal.returns-then-not-coefficients_bel
 unfolding code_answer coefficients_below
 returns-then-not-coefficients_below c = passed_by _ FieldNumber _ (field_true c.requires.field) (refused_by _ _ (sym c.coefficients_below.ensures ∙ c.if-not-coefficients_below.true))
 
-below-ok : (c : goal.Else-not-coefficients_below) → coefficients_below (code_of c.args.p c.args.xs.now c.args.ys.now) ≡ true
+below_ok : (c : goal.Else-not-coefficients_below) → coefficients_below (code_of c.args.p c.args.xs.now c.args.ys.now) ≡ true
 unfolding coefficients_below
-below-ok c = sym c.coefficients_below.ensures ∙ c.if-not-coefficients_below.false
+below_ok c = sym c.coefficients_below.ensures ∙ c.if-not-coefficients_below.false
 
 pub test_points-requires : goal.test_points-requires
 unfolding coefficients_below
-test_points-requires c = (c.requires, below-ok c)
+test_points-requires c = (c.requires, below_ok c)
 
-below-ok_2 : (c : goal.After-test_points) → coefficients_below (code_of c.args.p c.args.xs.now c.args.ys.now) ≡ true
+below_ok_2 : (c : goal.After-test_points) → coefficients_below (code_of c.args.p c.args.xs.now c.args.ys.now) ≡ true
 unfolding coefficients_below
-below-ok_2 c = sym c.coefficients_below.ensures ∙ c.if-not-coefficients_below.false
+below_ok_2 c = sym c.coefficients_below.ensures ∙ c.if-not-coefficients_below.false
 
 pub returns : goal.returns
 unfolding code_answer points_answer
-returns c = passed_by _ FieldNumber _ (field_true c.requires.field) (passed_by _ CurveCoefficient _ (below-ok_2 c) c.test_points.ensures)
+returns c = passed_by _ FieldNumber _ (field_true c.requires.field) (passed_by _ CurveCoefficient _ (below_ok_2 c) c.test_points.ensures)

@@ -23,24 +23,24 @@ abbrev code : goal.Then-not-right_count → Code
 code c = code_of c.args.p c.args.xs.now c.args.ys.now
 
 -- what each test that was passed says, in the order of the tests
-smooth-ok : (c : goal.Then-not-right_count) → smooth (code c) ≡ true
+smooth_ok : (c : goal.Then-not-right_count) → smooth (code c) ≡ true
 unfolding smooth
-smooth-ok c = ap not (sym c.is_singular.ensures ∙ c.if-is_singular.false)
+smooth_ok c = ap not (sym c.is_singular.ensures ∙ c.if-is_singular.false)
 
 pub returns-then-not-right_count : goal.returns-then-not-right_count
 unfolding points_answer right_count
-returns-then-not-right_count c = passed_by _ Singular _ (smooth-ok c) (refused_by _ _ (sym c.right_count.ensures ∙ c.if-not-right_count.true))
+returns-then-not-right_count c = passed_by _ Singular _ (smooth_ok c) (refused_by _ _ (sym c.right_count.ensures ∙ c.if-not-right_count.true))
 
 abbrev code_2 : goal.Else-not-right_count → Code
 code_2 c = code_of c.args.p c.args.xs.now c.args.ys.now
 
-count-ok : (c : goal.Else-not-right_count) → right_count (code_2 c) ≡ true
+count_ok : (c : goal.Else-not-right_count) → right_count (code_2 c) ≡ true
 unfolding right_count
-count-ok c = sym c.right_count.ensures ∙ c.if-not-right_count.false
+count_ok c = sym c.right_count.ensures ∙ c.if-not-right_count.false
 
 lengths : (c : goal.Else-not-right_count) → length c.args.xs.now ≡ length c.args.ys.now
 unfolding right_count
-lengths c = eqb-true _ _ (both (eqb (length c.args.xs.now) (length c.args.ys.now)) _ (count-ok c)).0
+lengths c = eqb-true _ _ (both (eqb (length c.args.xs.now) (length c.args.ys.now)) _ (count_ok c)).0
 
 pub judge-found-requires : goal.judge-found-requires
 judge-found-requires c = record { tables = c.requires.0; xs_len = lengths c }
@@ -49,97 +49,97 @@ abbrev code_3 : goal.Then-not-found → Code
 code_3 c = code_of c.args.p c.args.xs.now c.args.ys.now
 
 -- what each test that was passed says, in the order of the tests
-smooth-ok_2 : (c : goal.Then-not-found) → smooth (code_3 c) ≡ true
+smooth_ok_2 : (c : goal.Then-not-found) → smooth (code_3 c) ≡ true
 unfolding smooth
-smooth-ok_2 c = ap not (sym c.is_singular.ensures ∙ c.if-is_singular.false)
+smooth_ok_2 c = ap not (sym c.is_singular.ensures ∙ c.if-is_singular.false)
 
-count-ok_2 : (c : goal.Then-not-found) → right_count (code_3 c) ≡ true
+count_ok_2 : (c : goal.Then-not-found) → right_count (code_3 c) ≡ true
 unfolding right_count
-count-ok_2 c = sym c.right_count.ensures ∙ c.if-not-right_count.false
+count_ok_2 c = sym c.right_count.ensures ∙ c.if-not-right_count.false
 
 -- past the tests 3 and 4, and past all of the points
-past-count : (c : goal.Then-not-found) (o : Outcome (Unit {0})) {r : Answer} → r ≡ answer o
+past_count : (c : goal.Then-not-found) (o : Outcome (Unit {0})) {r : Answer} → r ≡ answer o
     → r ≡ answer (check (smooth (code_3 c)) Singular (check (right_count (code_3 c)) PointCount o))
-past-count c o h = passed_by _ Singular _ (smooth-ok_2 c) (passed_by _ PointCount o (count-ok_2 c) h)
+past_count c o h = passed_by _ Singular _ (smooth_ok_2 c) (passed_by _ PointCount o (count_ok_2 c) h)
 
 pub returns-then-not-found : goal.returns-then-not-found
 unfolding points_answer all_on_curve
-returns-then-not-found c = past-count c _ (refused_by _ _ (sym c.judge-found.ensures.points ∙ (not-true _ c.if-not-found.true)))
+returns-then-not-found c = past_count c _ (refused_by _ _ (sym c.judge-found.ensures.points ∙ (not-true _ c.if-not-found.true)))
 
 abbrev code_4 : goal.Then-not-found-2 → Code
 code_4 c = code_of c.args.p c.args.xs.now c.args.ys.now
 
 -- what each test that was passed says, in the order of the tests
-smooth-ok_3 : (c : goal.Then-not-found-2) → smooth (code_4 c) ≡ true
+smooth_ok_3 : (c : goal.Then-not-found-2) → smooth (code_4 c) ≡ true
 unfolding smooth
-smooth-ok_3 c = ap not (sym c.is_singular.ensures ∙ c.if-is_singular.false)
+smooth_ok_3 c = ap not (sym c.is_singular.ensures ∙ c.if-is_singular.false)
 
-count-ok_3 : (c : goal.Then-not-found-2) → right_count (code_4 c) ≡ true
+count_ok_3 : (c : goal.Then-not-found-2) → right_count (code_4 c) ≡ true
 unfolding right_count
-count-ok_3 c = sym c.right_count.ensures ∙ c.if-not-right_count.false
+count_ok_3 c = sym c.right_count.ensures ∙ c.if-not-right_count.false
 
 -- past the tests 3 and 4, and past all of the points
-past-count_2 : (c : goal.Then-not-found-2) (o : Outcome (Unit {0})) {r : Answer} → r ≡ answer o
+past_count_2 : (c : goal.Then-not-found-2) (o : Outcome (Unit {0})) {r : Answer} → r ≡ answer o
     → r ≡ answer (check (smooth (code_4 c)) Singular (check (right_count (code_4 c)) PointCount o))
-past-count_2 c o h = passed_by _ Singular _ (smooth-ok_3 c) (passed_by _ PointCount o (count-ok_3 c) h)
+past_count_2 c o h = passed_by _ Singular _ (smooth_ok_3 c) (passed_by _ PointCount o (count_ok_3 c) h)
 
-on-ok : (c : goal.Then-not-found-2) → all_on_curve (code_4 c) ≡ true
+on_ok : (c : goal.Then-not-found-2) → all_on_curve (code_4 c) ≡ true
 unfolding all_on_curve
-on-ok c = sym c.judge-found.ensures.points ∙ (not-false _ c.if-not-found.false)
+on_ok c = sym c.judge-found.ensures.points ∙ (not-false _ c.if-not-found.false)
 
 lengths_2 : (c : goal.Then-not-found-2) → length c.args.xs.now ≡ length c.args.ys.now
 unfolding right_count
-lengths_2 c = eqb-true _ _ (both (eqb (length c.args.xs.now) (length c.args.ys.now)) _ (count-ok_3 c)).0
+lengths_2 c = eqb-true _ _ (both (eqb (length c.args.xs.now) (length c.args.ys.now)) _ (count_ok_3 c)).0
 
 -- of points on the curve, the slots tell whether they are different
-apart-is : (c : goal.Then-not-found-2) → c.judge-found.result.apart ≡ all_different (code_4 c)
+apart_is : (c : goal.Then-not-found-2) → c.judge-found.result.apart ≡ all_different (code_4 c)
 unfolding all_different all_on_curve
-apart-is c =
-    c.judge-found.ensures.slots ∙ slots_differ c.args.xs.now c.args.ys.now (lengths_2 c) c.requires.0.field c.args.p.curve c.requires.1 (on-ok c)
+apart_is c =
+    c.judge-found.ensures.slots ∙ slots_differ c.args.xs.now c.args.ys.now (lengths_2 c) c.requires.0.field c.args.p.curve c.requires.1 (on_ok c)
 
 pub returns-then-not-found-2 : goal.returns-then-not-found-2
 unfolding points_answer
 returns-then-not-found-2 c =
-    past-count_2 c _ (passed_by _ OffCurve _ (on-ok c) (refused_by _ _ (sym (apart-is c) ∙ (not-true _ c.if-not-found-2.true))))
+    past_count_2 c _ (passed_by _ OffCurve _ (on_ok c) (refused_by _ _ (sym (apart_is c) ∙ (not-true _ c.if-not-found-2.true))))
 
 abbrev code_5 : goal.Then-not-right_dimension → Code
 code_5 c = code_of c.args.p c.args.xs.now c.args.ys.now
 
 -- what each test that was passed says, in the order of the tests
-smooth-ok_4 : (c : goal.Then-not-right_dimension) → smooth (code_5 c) ≡ true
+smooth_ok_4 : (c : goal.Then-not-right_dimension) → smooth (code_5 c) ≡ true
 unfolding smooth
-smooth-ok_4 c = ap not (sym c.is_singular.ensures ∙ c.if-is_singular.false)
+smooth_ok_4 c = ap not (sym c.is_singular.ensures ∙ c.if-is_singular.false)
 
-count-ok_4 : (c : goal.Then-not-right_dimension) → right_count (code_5 c) ≡ true
+count_ok_4 : (c : goal.Then-not-right_dimension) → right_count (code_5 c) ≡ true
 unfolding right_count
-count-ok_4 c = sym c.right_count.ensures ∙ c.if-not-right_count.false
+count_ok_4 c = sym c.right_count.ensures ∙ c.if-not-right_count.false
 
 -- past the tests 3 and 4, and past all of the points
-past-count_3 : (c : goal.Then-not-right_dimension) (o : Outcome (Unit {0})) {r : Answer} → r ≡ answer o
+past_count_3 : (c : goal.Then-not-right_dimension) (o : Outcome (Unit {0})) {r : Answer} → r ≡ answer o
     → r ≡ answer (check (smooth (code_5 c)) Singular (check (right_count (code_5 c)) PointCount o))
-past-count_3 c o h = passed_by _ Singular _ (smooth-ok_4 c) (passed_by _ PointCount o (count-ok_4 c) h)
+past_count_3 c o h = passed_by _ Singular _ (smooth_ok_4 c) (passed_by _ PointCount o (count_ok_4 c) h)
 
-on-ok_2 : (c : goal.Then-not-right_dimension) → all_on_curve (code_5 c) ≡ true
+on_ok_2 : (c : goal.Then-not-right_dimension) → all_on_curve (code_5 c) ≡ true
 unfolding all_on_curve
-on-ok_2 c = sym c.judge-found.ensures.points ∙ (not-false _ c.if-not-found.false)
+on_ok_2 c = sym c.judge-found.ensures.points ∙ (not-false _ c.if-not-found.false)
 
 lengths_3 : (c : goal.Then-not-right_dimension) → length c.args.xs.now ≡ length c.args.ys.now
 unfolding right_count
-lengths_3 c = eqb-true _ _ (both (eqb (length c.args.xs.now) (length c.args.ys.now)) _ (count-ok_4 c)).0
+lengths_3 c = eqb-true _ _ (both (eqb (length c.args.xs.now) (length c.args.ys.now)) _ (count_ok_4 c)).0
 
 -- of points on the curve, the slots tell whether they are different
-apart-is_2 : (c : goal.Then-not-right_dimension) → c.judge-found.result.apart ≡ all_different (code_5 c)
+apart_is_2 : (c : goal.Then-not-right_dimension) → c.judge-found.result.apart ≡ all_different (code_5 c)
 unfolding all_different all_on_curve
-apart-is_2 c =
-    c.judge-found.ensures.slots ∙ slots_differ c.args.xs.now c.args.ys.now (lengths_3 c) c.requires.0.field c.args.p.curve c.requires.1 (on-ok_2 c)
+apart_is_2 c =
+    c.judge-found.ensures.slots ∙ slots_differ c.args.xs.now c.args.ys.now (lengths_3 c) c.requires.0.field c.args.p.curve c.requires.1 (on_ok_2 c)
 
-different-ok : (c : goal.Then-not-right_dimension) → all_different (code_5 c) ≡ true
-different-ok c = sym (apart-is_2 c) ∙ (not-false _ c.if-not-found-2.false)
+different_ok : (c : goal.Then-not-right_dimension) → all_different (code_5 c) ≡ true
+different_ok c = sym (apart_is_2 c) ∙ (not-false _ c.if-not-found-2.false)
 
 past_points : (c : goal.Then-not-right_dimension) (o : Outcome (Unit {0})) {r : Answer} → r ≡ answer o
     → let d = code_5 c in
     r ≡ answer (check (smooth d) Singular (check (right_count d) PointCount (check (all_on_curve d) OffCurve (check (all_different d) RepeatedPoint o))))
-past_points c o h = past-count_3 c _ (passed_by _ OffCurve _ (on-ok_2 c) (passed_by _ RepeatedPoint o (different-ok c) h))
+past_points c o h = past_count_3 c _ (passed_by _ OffCurve _ (on_ok_2 c) (passed_by _ RepeatedPoint o (different_ok c) h))
 
 pub returns-then-not-right_dimension : goal.returns-then-not-right_dimension
 unfolding points_answer right_dimension
@@ -149,40 +149,40 @@ abbrev code_6 : goal.Else-not-right_dimension → Code
 code_6 c = code_of c.args.p c.args.xs.now c.args.ys.now
 
 -- what each test that was passed says, in the order of the tests
-smooth-ok_5 : (c : goal.Else-not-right_dimension) → smooth (code_6 c) ≡ true
+smooth_ok_5 : (c : goal.Else-not-right_dimension) → smooth (code_6 c) ≡ true
 unfolding smooth
-smooth-ok_5 c = ap not (sym c.is_singular.ensures ∙ c.if-is_singular.false)
+smooth_ok_5 c = ap not (sym c.is_singular.ensures ∙ c.if-is_singular.false)
 
-count-ok_5 : (c : goal.Else-not-right_dimension) → right_count (code_6 c) ≡ true
+count_ok_5 : (c : goal.Else-not-right_dimension) → right_count (code_6 c) ≡ true
 unfolding right_count
-count-ok_5 c = sym c.right_count.ensures ∙ c.if-not-right_count.false
+count_ok_5 c = sym c.right_count.ensures ∙ c.if-not-right_count.false
 
 -- past the tests 3 and 4, and past all of the points
-past-count_4 : (c : goal.Else-not-right_dimension) (o : Outcome (Unit {0})) {r : Answer} → r ≡ answer o
+past_count_4 : (c : goal.Else-not-right_dimension) (o : Outcome (Unit {0})) {r : Answer} → r ≡ answer o
     → r ≡ answer (check (smooth (code_6 c)) Singular (check (right_count (code_6 c)) PointCount o))
-past-count_4 c o h = passed_by _ Singular _ (smooth-ok_5 c) (passed_by _ PointCount o (count-ok_5 c) h)
+past_count_4 c o h = passed_by _ Singular _ (smooth_ok_5 c) (passed_by _ PointCount o (count_ok_5 c) h)
 
-on-ok_3 : (c : goal.Else-not-right_dimension) → all_on_curve (code_6 c) ≡ true
+on_ok_3 : (c : goal.Else-not-right_dimension) → all_on_curve (code_6 c) ≡ true
 unfolding all_on_curve
-on-ok_3 c = sym c.judge-found.ensures.points ∙ (not-false _ c.if-not-found.false)
+on_ok_3 c = sym c.judge-found.ensures.points ∙ (not-false _ c.if-not-found.false)
 
 lengths_4 : (c : goal.Else-not-right_dimension) → length c.args.xs.now ≡ length c.args.ys.now
 unfolding right_count
-lengths_4 c = eqb-true _ _ (both (eqb (length c.args.xs.now) (length c.args.ys.now)) _ (count-ok_5 c)).0
+lengths_4 c = eqb-true _ _ (both (eqb (length c.args.xs.now) (length c.args.ys.now)) _ (count_ok_5 c)).0
 
 -- of points on the curve, the slots tell whether they are different
-apart-is_3 : (c : goal.Else-not-right_dimension) → c.judge-found.result.apart ≡ all_different (code_6 c)
+apart_is_3 : (c : goal.Else-not-right_dimension) → c.judge-found.result.apart ≡ all_different (code_6 c)
 unfolding all_different all_on_curve
-apart-is_3 c =
-    c.judge-found.ensures.slots ∙ slots_differ c.args.xs.now c.args.ys.now (lengths_4 c) c.requires.0.field c.args.p.curve c.requires.1 (on-ok_3 c)
+apart_is_3 c =
+    c.judge-found.ensures.slots ∙ slots_differ c.args.xs.now c.args.ys.now (lengths_4 c) c.requires.0.field c.args.p.curve c.requires.1 (on_ok_3 c)
 
-different-ok_2 : (c : goal.Else-not-right_dimension) → all_different (code_6 c) ≡ true
-different-ok_2 c = sym (apart-is_3 c) ∙ (not-false _ c.if-not-found-2.false)
+different_ok_2 : (c : goal.Else-not-right_dimension) → all_different (code_6 c) ≡ true
+different_ok_2 c = sym (apart_is_3 c) ∙ (not-false _ c.if-not-found-2.false)
 
 past_points_2 : (c : goal.Else-not-right_dimension) (o : Outcome (Unit {0})) {r : Answer} → r ≡ answer o
     → let d = code_6 c in
     r ≡ answer (check (smooth d) Singular (check (right_count d) PointCount (check (all_on_curve d) OffCurve (check (all_different d) RepeatedPoint o))))
-past_points_2 c o h = past-count_4 c _ (passed_by _ OffCurve _ (on-ok_3 c) (passed_by _ RepeatedPoint o (different-ok_2 c) h))
+past_points_2 c o h = past_count_4 c _ (passed_by _ OffCurve _ (on_ok_3 c) (passed_by _ RepeatedPoint o (different_ok_2 c) h))
 
 pub returns : goal.returns
 unfolding points_answer right_dimension answer

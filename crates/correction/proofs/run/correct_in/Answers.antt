@@ -34,65 +34,65 @@ locate-requires c =
     }
 
 -- the arrays are long enough for the values at all points
-long-a : (c : goal.After-slice_known-10-1) → length c.args.xs.now ≤ length c.locate.new.a
-long-a c = omega (arith, c.locate.auto, c.requires.four_long.a_long)
+long_a : (c : goal.After-slice_known-10-1) → length c.args.xs.now ≤ length c.locate.new.a
+long_a c = omega (arith, c.locate.auto, c.requires.four_long.a_long)
 
 pub slice_bounds-correct_kept-end : goal.slice_bounds-correct_kept-end
-slice_bounds-correct_kept-end c = long-a c
+slice_bounds-correct_kept-end c = long_a c
 
 pub slice_bounds-correct_kept-end-2 : goal.slice_bounds-correct_kept-end-2
-slice_bounds-correct_kept-end-2 c = sym (length-take-le _ _ (long-a c))
+slice_bounds-correct_kept-end-2 c = sym (length-take-le _ _ (long_a c))
 
-long-b : (c : goal.After-slice_known-10-1) → length c.args.xs.now ≤ length c.locate.new.b
-long-b c = omega (arith, c.locate.auto, c.requires.four_long.b_long)
+long_b : (c : goal.After-slice_known-10-1) → length c.args.xs.now ≤ length c.locate.new.b
+long_b c = omega (arith, c.locate.auto, c.requires.four_long.b_long)
 
 pub slice_bounds-correct_kept-end-3 : goal.slice_bounds-correct_kept-end-3
-slice_bounds-correct_kept-end-3 c = long-b c
+slice_bounds-correct_kept-end-3 c = long_b c
 
-long-b_2 : (c : goal.After-correct_kept-arg-1) → length c.args.xs.now ≤ length c.locate.new.b
-long-b_2 c = omega (arith, c.locate.auto, c.requires.four_long.b_long)
+long_b_2 : (c : goal.After-correct_kept-arg-1) → length c.args.xs.now ≤ length c.locate.new.b
+long_b_2 c = omega (arith, c.locate.auto, c.requires.four_long.b_long)
 
 pub slice_bounds-correct_kept-end-4 : goal.slice_bounds-correct_kept-end-4
-slice_bounds-correct_kept-end-4 c = sym (length-take-le _ _ (long-b_2 c))
+slice_bounds-correct_kept-end-4 c = sym (length-take-le _ _ (long_b_2 c))
 
-long-c : (c : goal.After-correct_kept-arg-1) → length c.args.xs.now ≤ length c.locate.new.c
-long-c c = omega (arith, c.locate.auto, c.requires.four_long.c_long)
+long_c : (c : goal.After-correct_kept-arg-1) → length c.args.xs.now ≤ length c.locate.new.c
+long_c c = omega (arith, c.locate.auto, c.requires.four_long.c_long)
 
 pub slice_bounds-correct_kept-end-5 : goal.slice_bounds-correct_kept-end-5
-slice_bounds-correct_kept-end-5 c = long-c c
+slice_bounds-correct_kept-end-5 c = long_c c
 
-long-c_2 : (c : goal.After-correct_kept-arg-2-1) → length c.args.xs.now ≤ length c.locate.new.c
-long-c_2 c = omega (arith, c.locate.auto, c.requires.four_long.c_long)
+long_c_2 : (c : goal.After-correct_kept-arg-2-1) → length c.args.xs.now ≤ length c.locate.new.c
+long_c_2 c = omega (arith, c.locate.auto, c.requires.four_long.c_long)
 
 pub slice_bounds-correct_kept-end-6 : goal.slice_bounds-correct_kept-end-6
-slice_bounds-correct_kept-end-6 c = sym (length-take-le _ _ (long-c_2 c))
+slice_bounds-correct_kept-end-6 c = sym (length-take-le _ _ (long_c_2 c))
 
-long-d : (c : goal.After-correct_kept-arg-2-1) → length c.args.xs.now ≤ length c.locate.new.d
-long-d c = omega (arith, c.locate.auto, c.requires.four_long.d_long)
+long_d : (c : goal.After-correct_kept-arg-2-1) → length c.args.xs.now ≤ length c.locate.new.d
+long_d c = omega (arith, c.locate.auto, c.requires.four_long.d_long)
 
 pub slice_bounds-correct_kept-end-7 : goal.slice_bounds-correct_kept-end-7
-slice_bounds-correct_kept-end-7 c = long-d c
+slice_bounds-correct_kept-end-7 c = long_d c
 
-long-d_2 : (c : goal.After-correct_kept-arg-3-1) → length c.args.xs.now ≤ length c.locate.new.d
-long-d_2 c = omega (arith, c.locate.auto, c.requires.four_long.d_long)
+long_d_2 : (c : goal.After-correct_kept-arg-3-1) → length c.args.xs.now ≤ length c.locate.new.d
+long_d_2 c = omega (arith, c.locate.auto, c.requires.four_long.d_long)
 
 pub slice_bounds-correct_kept-end-8 : goal.slice_bounds-correct_kept-end-8
-slice_bounds-correct_kept-end-8 c = sym (length-take-le _ _ (long-d_2 c))
+slice_bounds-correct_kept-end-8 c = sym (length-take-le _ _ (long_d_2 c))
 
 abbrev code_3 : goal.After-correct_kept-arg-5-1 → Code
 code_3 c = code_of c.args.p c.args.xs.now c.args.ys.now
 
-long-b_3 : (c : goal.After-correct_kept-arg-5-1) → length c.args.xs.now ≤ length c.locate.new.b
-long-b_3 c = omega (arith, c.locate.auto, c.requires.four_long.b_long)
+long_b_3 : (c : goal.After-correct_kept-arg-5-1) → length c.args.xs.now ≤ length c.locate.new.b
+long_b_3 c = omega (arith, c.locate.auto, c.requires.four_long.b_long)
 
-long-c_3 : (c : goal.After-correct_kept-arg-5-1) → length c.args.xs.now ≤ length c.locate.new.c
-long-c_3 c = omega (arith, c.locate.auto, c.requires.four_long.c_long)
+long_c_3 : (c : goal.After-correct_kept-arg-5-1) → length c.args.xs.now ≤ length c.locate.new.c
+long_c_3 c = omega (arith, c.locate.auto, c.requires.four_long.c_long)
 
-long-d_3 : (c : goal.After-correct_kept-arg-5-1) → length c.args.xs.now ≤ length c.locate.new.d
-long-d_3 c = omega (arith, c.locate.auto, c.requires.four_long.d_long)
+long_d_3 : (c : goal.After-correct_kept-arg-5-1) → length c.args.xs.now ≤ length c.locate.new.d
+long_d_3 c = omega (arith, c.locate.auto, c.requires.four_long.d_long)
 
 pub correct_kept-requires : goal.correct_kept-requires
 unfolding radius
 correct_kept-requires c =
     let (size, fits, room, are_symbols) = c.requires.r_len in
-    record { tables = c.requires.tables; located = (located (code_3 c) c.requires.ys_value c.args.r.now are_symbols size c.layout-shape.ensures c.locate.ensures, c.layout-shape.ensures.t_is); l_len = (length-take-le _ _ (long-b_3 c), length-take-le _ _ (long-c_3 c), length-take-le _ _ (long-d_3 c), fits, room) }
+    record { tables = c.requires.tables; located = (located (code_3 c) c.requires.ys_value c.args.r.now are_symbols size c.layout-shape.ensures c.locate.ensures, c.layout-shape.ensures.t_is); l_len = (length-take-le _ _ (long_b_3 c), length-take-le _ _ (long_c_3 c), length-take-le _ _ (long_d_3 c), fits, room) }

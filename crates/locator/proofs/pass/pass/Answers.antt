@@ -9,11 +9,11 @@ pub loop-i-init : goal.loop-i-init
 loop-i-init c = (sweeping_none _ _ _, sweeping_none _ _ _, sweeping_none _ _ _, sweeping_none _ _ _)
 
 -- i is within every list
-within-p : (c : goal.After-slice_known-in-loop-i-1-unread) → c.loop-i.i < length c.loop-i.p
-within-p c = omega (arith, c.loop-i-test.true, c.requires.p_len.0, c.loop-i.invariant.0.size)
+within_p : (c : goal.After-slice_known-in-loop-i-1-unread) → c.loop-i.i < length c.loop-i.p
+within_p c = omega (arith, c.loop-i-test.true, c.requires.p_len.0, c.loop-i.invariant.0.size)
 
 pub bounds-p-i : goal.bounds-p-i
-bounds-p-i c = within-p c
+bounds-p-i c = within_p c
 
 pub product_by_log-gain_a-requires : goal.product_by_log-gain_a-requires
 product_by_log-gain_a-requires c = (c.requires.tables, logged c.requires.tables.field c.ranges.ta.fits c.logarithm-log_a.ensures)
@@ -31,11 +31,11 @@ pub product-requires : goal.product-requires
 product-requires c = c.requires.tables
 
 -- i is within every list
-within-p_2 : (c : goal.After-product) → c.loop-i.i < length c.loop-i.p
-within-p_2 c = omega (arith, c.loop-i-test.true, c.requires.p_len.0, c.loop-i.invariant.0.size)
+within_p_2 : (c : goal.After-product) → c.loop-i.i < length c.loop-i.p
+within_p_2 c = omega (arith, c.loop-i-test.true, c.requires.p_len.0, c.loop-i.invariant.0.size)
 
 pub bounds-p-i-in-loop-i : goal.bounds-p-i-in-loop-i
-bounds-p-i-in-loop-i c = within-p_2 c
+bounds-p-i-in-loop-i c = within_p_2 c
 
 within_a : (c : goal.After-slice_known-in-loop-i-2-1-unread) → c.loop-i.i < length c.loop-i.a
 within_a c = omega (arith, c.loop-i-test.true, c.requires.p_len.1, c.loop-i.invariant.1.size)
@@ -61,17 +61,17 @@ within_b_2 c = omega (arith, c.loop-i-test.true, c.requires.p_len.2, c.loop-i.in
 pub bounds-b-i-in-loop-i : goal.bounds-b-i-in-loop-i
 bounds-b-i-in-loop-i c = within_b_2 c
 
-within-c : (c : goal.After-slice_known-in-loop-i-4-1-unread) → c.loop-i.i < length c.loop-i.c
-within-c c = omega (arith, c.loop-i-test.true, c.requires.p_len.3, c.loop-i.invariant.3.size)
+within_c : (c : goal.After-slice_known-in-loop-i-4-1-unread) → c.loop-i.i < length c.loop-i.c
+within_c c = omega (arith, c.loop-i-test.true, c.requires.p_len.3, c.loop-i.invariant.3.size)
 
 pub bounds-c-i : goal.bounds-c-i
-bounds-c-i c = within-c c
+bounds-c-i c = within_c c
 
-within-c_2 : (c : goal.After-slice_known-in-loop-i-4-1) → c.loop-i.i < length c.loop-i.c
-within-c_2 c = omega (arith, c.loop-i-test.true, c.requires.p_len.3, c.loop-i.invariant.3.size)
+within_c_2 : (c : goal.After-slice_known-in-loop-i-4-1) → c.loop-i.i < length c.loop-i.c
+within_c_2 c = omega (arith, c.loop-i-test.true, c.requires.p_len.3, c.loop-i.invariant.3.size)
 
 pub bounds-c-i-in-loop-i : goal.bounds-c-i-in-loop-i
-bounds-c-i-in-loop-i c = within-c_2 c
+bounds-c-i-in-loop-i c = within_c_2 c
 
 pub loop-i-smaller : goal.loop-i-smaller
 loop-i-smaller c = omega (arith, c.loop-i-test.true)

@@ -9,19 +9,19 @@ use Rattle.locator.proofs.Stepping.{room_a, room_b, room_c, room_d, next_a, next
 use Rattle.locator.proofs.step.step.Goals as goal
 
 -- the exchange by an index that is known
-exchanged-by : (hs : Heads) {at j : ℕ} {first : Heads} → first ≡ exchanged_at at hs → at ≡ j → first ≡ exchanged_at j hs
-exchanged-by hs e z = e ∙ ap (λ at. exchanged_at at hs) z
+exchanged_by : (hs : Heads) {at j : ℕ} {first : Heads} → first ≡ exchanged_at at hs → at ≡ j → first ≡ exchanged_at j hs
+exchanged_by hs e z = e ∙ ap (λ at. exchanged_at at hs) z
 
-exchanged-last : (at : ℕ) (hs : Heads) {first : Heads} → first ≡ exchanged_at at hs → (at ≡ 1 → ⊥) → (at ≡ 2 → ⊥) → first ≡ exchanged_at 3 hs
-exchanged-last at hs e n1 n2 = e ∙ rw (ne_eqb at 1 n1, ne_eqb at 2 n2) refl
+exchanged_last : (at : ℕ) (hs : Heads) {first : Heads} → first ≡ exchanged_at at hs → (at ≡ 1 → ⊥) → (at ≡ 2 → ⊥) → first ≡ exchanged_at 3 hs
+exchanged_last at hs e n1 n2 = e ∙ rw (ne_eqb at 1 n1, ne_eqb at 2 n2) refl
 
 -- room and a turn, for heads that equal others
 room_of : {i : ℕ} {shape : Layout} {xs : List ℕ} {hs first : Heads} {p a b c : List ℕ} → first ≡ hs → TurnRoom shape i xs hs p a b c → TurnRoom shape i xs first p a b c
 room_of {i = i} {shape = shape} {xs = xs} {p = p} {a = a} {b = b} {c = c} e r = subst (λ hs. TurnRoom shape i xs hs p a b c) (sym e) r
 
-turns-of : (m : ℕ) {i : ℕ} {shape : Layout} {xs : List ℕ} {hs first rs : Heads} {p a b c p' a' b' c' : List ℕ}
+turns_of : (m : ℕ) {i : ℕ} {shape : Layout} {xs : List ℕ} {hs first rs : Heads} {p a b c p' a' b' c' : List ℕ}
     → first ≡ hs → Turns m shape xs i first p a b c rs p' a' b' c' → Turns m shape xs i hs p a b c rs p' a' b' c'
-turns-of m {i = i} {shape = shape} {xs = xs} {rs = rs} {p = p} {a = a} {b = b} {c = c} {p' = p'} {a' = a'} {b' = b'} {c' = c'} e r =
+turns_of m {i = i} {shape = shape} {xs = xs} {rs = rs} {p = p} {a = a} {b = b} {c = c} {p' = p'} {a' = a'} {b' = b'} {c' = c'} e r =
     subst (λ hs. Turns m shape xs i hs p a b c rs p' a' b' c') e r
 
 pub turn-requires : goal.turn-requires
@@ -58,19 +58,19 @@ returns-then-at-eq4 c =
 abbrev heads : goal.After-turn-arg-then-at-eq1-4-1 → Heads
 heads c = c.args.hs
 
-first-b : (c : goal.After-turn-arg-then-at-eq1-4-1) → c.exchanged-first.result ≡ exchanged_at 1 (heads c)
-first-b c = exchanged-by (heads c) c.exchanged-first.ensures c.if-at-eq1.true
+first_b : (c : goal.After-turn-arg-then-at-eq1-4-1) → c.exchanged-first.result ≡ exchanged_at 1 (heads c)
+first_b c = exchanged_by (heads c) c.exchanged-first.ensures c.if-at-eq1.true
 
 pub turn-requires-then-at-eq1 : goal.turn-requires-then-at-eq1
 turn-requires-then-at-eq1 c =
-    record { tables = c.requires.tables; turn_room = room_of (first-b c) (room_b c.requires.tables.field c.requires.laid.0 c.requires.laid.1 c.requires.after) }
+    record { tables = c.requires.tables; turn_room = room_of (first_b c) (room_b c.requires.tables.field c.requires.laid.0 c.requires.laid.1 c.requires.after) }
 
 -- the heads that a turn begins with
 abbrev heads_2 : goal.After-exchanged → Heads
 heads_2 c = c.args.hs
 
-first-b_2 : (c : goal.After-exchanged) → c.exchanged-first.result ≡ exchanged_at 1 (heads_2 c)
-first-b_2 c = exchanged-by (heads_2 c) c.exchanged-first.ensures c.if-at-eq1.true
+first_b_2 : (c : goal.After-exchanged) → c.exchanged-first.result ≡ exchanged_at 1 (heads_2 c)
+first_b_2 c = exchanged_by (heads_2 c) c.exchanged-first.ensures c.if-at-eq1.true
 
 -- the pivot of the definition is that of the code
 abbrev best_3 : goal.After-exchanged → Pivot
@@ -83,26 +83,26 @@ is_at_3 c z = sym (ap (λ p. p.at) c.lightest-best.ensures) ∙ z
 
 pub returns-then-at-eq1 : goal.returns-then-at-eq1
 returns-then-at-eq1 c =
-    let turns = turns-of c.args.m (first-b_2 c) c.turn-then-at-eq1.ensures in
+    let turns = turns_of c.args.m (first_b_2 c) c.turn-then-at-eq1.ensures in
     rw c.exchanged.ensures (next_b c.requires.tables.field c.requires.laid.0 c.requires.laid.1 c.requires.after (is_at_3 c c.if-at-eq1.true) turns)
 
 -- the heads that a turn begins with
 abbrev heads_3 : goal.After-turn-arg-then-at-eq2-4-1 → Heads
 heads_3 c = c.args.hs
 
-first-c : (c : goal.After-turn-arg-then-at-eq2-4-1) → c.exchanged-first.result ≡ exchanged_at 2 (heads_3 c)
-first-c c = exchanged-by (heads_3 c) c.exchanged-first.ensures c.if-at-eq2.true
+first_c : (c : goal.After-turn-arg-then-at-eq2-4-1) → c.exchanged-first.result ≡ exchanged_at 2 (heads_3 c)
+first_c c = exchanged_by (heads_3 c) c.exchanged-first.ensures c.if-at-eq2.true
 
 pub turn-requires-then-at-eq2 : goal.turn-requires-then-at-eq2
 turn-requires-then-at-eq2 c =
-    record { tables = c.requires.tables; turn_room = room_of (first-c c) (room_c c.requires.tables.field c.requires.laid.0 c.requires.laid.1 c.requires.after) }
+    record { tables = c.requires.tables; turn_room = room_of (first_c c) (room_c c.requires.tables.field c.requires.laid.0 c.requires.laid.1 c.requires.after) }
 
 -- the heads that a turn begins with
 abbrev heads_4 : goal.After-exchanged-then-at-eq2 → Heads
 heads_4 c = c.args.hs
 
-first-c_2 : (c : goal.After-exchanged-then-at-eq2) → c.exchanged-first.result ≡ exchanged_at 2 (heads_4 c)
-first-c_2 c = exchanged-by (heads_4 c) c.exchanged-first.ensures c.if-at-eq2.true
+first_c_2 : (c : goal.After-exchanged-then-at-eq2) → c.exchanged-first.result ≡ exchanged_at 2 (heads_4 c)
+first_c_2 c = exchanged_by (heads_4 c) c.exchanged-first.ensures c.if-at-eq2.true
 
 -- the pivot of the definition is that of the code
 abbrev best_4 : goal.After-exchanged-then-at-eq2 → Pivot
@@ -115,26 +115,26 @@ is_at_4 c z = sym (ap (λ p. p.at) c.lightest-best.ensures) ∙ z
 
 pub returns-then-at-eq2 : goal.returns-then-at-eq2
 returns-then-at-eq2 c =
-    let turns = turns-of c.args.m (first-c_2 c) c.turn-then-at-eq2.ensures in
+    let turns = turns_of c.args.m (first_c_2 c) c.turn-then-at-eq2.ensures in
     rw c.exchanged-then-at-eq2.ensures (next_c c.requires.tables.field c.requires.laid.0 c.requires.laid.1 c.requires.after (is_at_4 c c.if-at-eq2.true) turns)
 
 -- the heads that a turn begins with
 abbrev heads_5 : goal.After-turn-arg-5-1 → Heads
 heads_5 c = c.args.hs
 
-first-d : (c : goal.After-turn-arg-5-1) → c.exchanged-first.result ≡ exchanged_at 3 (heads_5 c)
-first-d c = exchanged-last c.lightest-best.result.at (heads_5 c) c.exchanged-first.ensures c.if-at-eq1.false c.if-at-eq2.false
+first_d : (c : goal.After-turn-arg-5-1) → c.exchanged-first.result ≡ exchanged_at 3 (heads_5 c)
+first_d c = exchanged_last c.lightest-best.result.at (heads_5 c) c.exchanged-first.ensures c.if-at-eq1.false c.if-at-eq2.false
 
 pub turn-requires-2 : goal.turn-requires-2
 turn-requires-2 c =
-    record { tables = c.requires.tables; turn_room = room_of (first-d c) (room_d c.requires.tables.field c.requires.laid.0 c.requires.laid.1 c.requires.after) }
+    record { tables = c.requires.tables; turn_room = room_of (first_d c) (room_d c.requires.tables.field c.requires.laid.0 c.requires.laid.1 c.requires.after) }
 
 -- the heads that a turn begins with
 abbrev heads_6 : goal.After-exchanged-2 → Heads
 heads_6 c = c.args.hs
 
-first-d_2 : (c : goal.After-exchanged-2) → c.exchanged-first.result ≡ exchanged_at 3 (heads_6 c)
-first-d_2 c = exchanged-last c.lightest-best.result.at (heads_6 c) c.exchanged-first.ensures c.if-at-eq1.false c.if-at-eq2.false
+first_d_2 : (c : goal.After-exchanged-2) → c.exchanged-first.result ≡ exchanged_at 3 (heads_6 c)
+first_d_2 c = exchanged_last c.lightest-best.result.at (heads_6 c) c.exchanged-first.ensures c.if-at-eq1.false c.if-at-eq2.false
 
 -- the pivot of the definition is that of the code
 abbrev best_5 : goal.After-exchanged-2 → Pivot
@@ -147,7 +147,7 @@ not_at c n z = n (ap (λ p. p.at) c.lightest-best.ensures ∙ z)
 
 pub returns : goal.returns
 returns c =
-    let turns = turns-of c.args.m (first-d_2 c) c.turn-2.ensures in
+    let turns = turns_of c.args.m (first_d_2 c) c.turn-2.ensures in
     rw c.exchanged-2.ensures
     (next_d c.requires.tables.field c.requires.laid.0 c.requires.laid.1 c.requires.after
     (not_at c c.if-at-eq0.false) (not_at c c.if-at-eq1.false) (not_at c c.if-at-eq2.false) (not_at c c.if-at-eq4.false) turns)

@@ -10,9 +10,9 @@ use Rattle.locator.proofs.Turning.{turns}
 use Rattle.locator.proofs.turn.turn.Goals as goal
 
 -- the arrays have room for E, as they keep their lengths
-sizes-fit : {shape : Layout} {i : ℕ} {xs : List ℕ} {hs : Heads} {p a b c p₁ a₁ b₁ c₁ : List ℕ} → TurnRoom shape i xs hs p a b c
+sizes_fit_here : {shape : Layout} {i : ℕ} {xs : List ℕ} {hs : Heads} {p a b c p₁ a₁ b₁ c₁ : List ℕ} → TurnRoom shape i xs hs p a b c
     → length p₁ ≡ length p → length a₁ ≡ length a → length b₁ ≡ length b → length c₁ ≡ length c → SizesFit (shape.t + 1) hs p₁ a₁ b₁ c₁
-sizes-fit r ep ea eb ec = record {
+sizes_fit_here r ep ea eb ec = record {
   some = omega arith;
   small = omega (arith, r.few);
   p_most = omega (arith, r.sizes.0);
@@ -49,7 +49,7 @@ overflow_add-shape c = record { fits = omega (arith, c.requires.turn_room.few) }
 
 pub turn_dens-requires : goal.turn_dens-requires
 turn_dens-requires c =
-    record { tables = c.requires.tables; sizes_fit = sizes-fit c.requires.turn_room c.turn_defects.ensures.0.size c.turn_defects.ensures.1.size c.turn_defects.ensures.2.size c.turn_defects.ensures.3.size }
+    record { tables = c.requires.tables; sizes_fit = sizes_fit_here c.requires.turn_room c.turn_defects.ensures.0.size c.turn_defects.ensures.1.size c.turn_defects.ensures.2.size c.turn_defects.ensures.3.size }
 
 pub shape_of-p : goal.shape_of-p
 shape_of-p c = c.turn_dens.ensures.p_lifts.behind.size ∙ c.turn_defects.ensures.0.size

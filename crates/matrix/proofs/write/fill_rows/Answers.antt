@@ -15,8 +15,8 @@ pub index_rest-requires : goal.index_rest-requires
 index_rest-requires c =
     (rw c.requires.written.1 c.requires.written.0.places, marked c.args.k (length c.args.px.now) c.args.places.now c.args.sums.now c.requires.written.1 c.requires.written.0.most c.requires.written.0.places c.requires.written.0.apart c.requires.written.0.full, c.requires.written.0.firsts ∙ sym c.requires.written.1, c.requires.written.0.seconds ∙ sym c.requires.written.1)
 
-sums-size : (c : goal.After-part_rows-arg-2-1) → length c.fill_ones.new.out ≡ length c.args.px.now
-sums-size c = c.fill_ones.auto.out ∙ c.index_rest.auto.marks ∙ c.requires.written.1
+sums_size : (c : goal.After-part_rows-arg-2-1) → length c.fill_ones.new.out ≡ length c.args.px.now
+sums_size c = c.fill_ones.auto.out ∙ c.index_rest.auto.marks ∙ c.requires.written.1
 
 -- the indices of the free points
 indexed : (c : goal.After-part_rows-arg-2-1) →
@@ -30,7 +30,7 @@ slots c =
       points = c.requires.written.0.points;
       first_size = c.index_rest.auto.a ∙ c.requires.written.0.firsts;
       second_size = c.index_rest.auto.b ∙ c.requires.written.0.seconds;
-      sum_size = sums-size c;
+      sum_size = sums_size c;
       row_size = refl;
       inside = (indexed c).inside;
       most = c.requires.written.0.most;
@@ -41,8 +41,8 @@ part_rows-requires c =
     let size = c.index_rest.auto.marks ∙ c.requires.written.1 in
     record { tables = c.requires.tables; slots = (slots c, c.requires.written.0.lows, c.requires.written.0.highs, c.clear.auto.f ∙ c.requires.written.0.room, c.fill_ones.ensures ∙ ap (table one) size, c.clear.ensures ∙ ap (λ y. replicate y 0) c.requires.written.0.room) }
 
-sums-size_2 : (c : goal.After-complete_rows-arg-1) → length c.fill_ones.new.out ≡ length c.args.px.now
-sums-size_2 c = c.fill_ones.auto.out ∙ c.index_rest.auto.marks ∙ c.requires.written.1
+sums_size_2 : (c : goal.After-complete_rows-arg-1) → length c.fill_ones.new.out ≡ length c.args.px.now
+sums_size_2 c = c.fill_ones.auto.out ∙ c.index_rest.auto.marks ∙ c.requires.written.1
 
 -- the indices of the free points
 indexed_2 : (c : goal.After-complete_rows-arg-1) →
@@ -56,7 +56,7 @@ slots_2 c =
       points = c.requires.written.0.points;
       first_size = c.index_rest.auto.a ∙ c.requires.written.0.firsts;
       second_size = c.index_rest.auto.b ∙ c.requires.written.0.seconds;
-      sum_size = sums-size_2 c;
+      sum_size = sums_size_2 c;
       row_size = refl;
       inside = (indexed_2 c).inside;
       most = c.requires.written.0.most;
@@ -64,7 +64,7 @@ slots_2 c =
 
 pub complete_rows-requires : goal.complete_rows-requires
 complete_rows-requires c =
-    (slots_of (c.part_rows.auto.sums ∙ sums-size_2 c) refl (slots_2 c), c.requires.written.0.places, c.requires.written.0.full, c.part_rows.auto.out ∙ c.clear.auto.f ∙ c.requires.written.0.room)
+    (slots_of (c.part_rows.auto.sums ∙ sums_size_2 c) refl (slots_2 c), c.requires.written.0.places, c.requires.written.0.full, c.part_rows.auto.out ∙ c.clear.auto.f ∙ c.requires.written.0.room)
 
 -- the indices of the free points
 indexed_3 : (c : goal.After-slice_known-12-1) →

@@ -28,21 +28,21 @@ small_2 : (c : goal.After-sum_of_means) → (c.add_up-t.result.count ≤ 24) × 
 small_2 c = totals_small c.args.codes.now c.requires c.add_up-t.ensures (omega (arith, c.told-codes))
 
 -- the sum of the means, as `nearest` gets it
-its-sum : (c : goal.After-sum_of_means) →
+its_sum : (c : goal.After-sum_of_means) →
     to_z w32 (of_z w32 c.sum_of_means.result) ≡ pos c.add_up-t.result.sum -ℤ pos (2000 * c.add_up-t.result.count)
-its-sum c = rw (to_z-of_z w32 c.sum_of_means.result (record { sfits = c.sum_of_means.type_inv })) c.sum_of_means.ensures
+its_sum c = rw (to_z-of_z w32 c.sum_of_means.result (record { sfits = c.sum_of_means.type_inv })) c.sum_of_means.ensures
 
 pub nearest-requires : goal.nearest-requires
 nearest-requires c = let s = small_2 c in
-    rw (its-sum c) (omega arith, omega arith, sum_small _ _ s.1)
+    rw (its_sum c) (omega arith, omega arith, sum_small _ _ s.1)
 
 -- the sum of the means, as `nearest` gets it
-its-sum_2 : (c : goal.After-nearest) →
+its_sum_2 : (c : goal.After-nearest) →
     to_z w32 (of_z w32 c.sum_of_means.result) ≡ pos c.add_up-t.result.sum -ℤ pos (2000 * c.add_up-t.result.count)
-its-sum_2 c = rw (to_z-of_z w32 c.sum_of_means.result (record { sfits = c.sum_of_means.type_inv })) c.sum_of_means.ensures
+its_sum_2 c = rw (to_z-of_z w32 c.sum_of_means.result (record { sfits = c.sum_of_means.type_inv })) c.sum_of_means.ensures
 
 pub returns : goal.returns
 returns c =
     let enough : 18 ≤ c.add_up-t.result.count = omega (arith, c.if-t-lt-ENOUGH.false) in
     rw (to_z-of_z w16 c.nearest.result (record { sfits = c.nearest.type_inv }))
-    (rw (figure_by_totals _ c.requires c.add_up-t.ensures, le-ltb _ _ enough) (rw (its-sum_2 c) at c.nearest.ensures))
+    (rw (figure_by_totals _ c.requires c.add_up-t.ensures, le-ltb _ _ enough) (rw (its_sum_2 c) at c.nearest.ensures))

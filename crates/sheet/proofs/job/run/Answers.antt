@@ -18,13 +18,13 @@ pub returns-then-not-is_field : goal.returns-then-not-is_field
 unfolding job_outcome code_for
 returns-then-not-is_field c = stops _ (sym c.is_field.ensures ∙ c.if-not-is_field.true)
 
-field-ok : (c : goal.Then-not-is_small) → is_field c.args.head.field ≡ true
-field-ok c = sym c.is_field.ensures ∙ c.if-not-is_field.false
+field_ok : (c : goal.Then-not-is_small) → is_field c.args.head.field ≡ true
+field_ok c = sym c.is_field.ensures ∙ c.if-not-is_field.false
 
 pub returns-then-not-is_small : goal.returns-then-not-is_small
 unfolding job_outcome code_for coefficients_below
 returns-then-not-is_small c =
-    passes _ (field-ok c) (stops _ (too_large c.args.head.field (curve_of c.args.head) (is_field_lem c.args.head.field (field-ok c)) (sym c.is_small.ensures ∙ c.if-not-is_small.true)))
+    passes _ (field_ok c) (stops _ (too_large c.args.head.field (curve_of c.args.head) (is_field_lem c.args.head.field (field_ok c)) (sym c.is_small.ensures ∙ c.if-not-is_small.true)))
 
 pub parameters-requires : goal.parameters-requires
 parameters-requires c = (omega (arith, c.if-head-ge256.false), sym c.is_small.ensures ∙ c.if-not-is_small.false)

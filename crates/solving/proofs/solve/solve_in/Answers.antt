@@ -58,12 +58,12 @@ says_2 : (c : goal.Else-last-places)
 says_2 c = zero_last c.requires.posed.0.placed _ c.requires.posed.0.are_symbols c.requires.posed.0.at_least c.run-n.ensures.pair c.chosen_place-place.ensures c.zero_at-zero.ensures
 
 -- the last place is one of the list
-last-lt : (c : goal.Else-last-places) → c.last_index-last.result.0 < length c.args.places.now
-last-lt c =
+last_lt : (c : goal.Else-last-places) → c.last_index-last.result.0 < length c.args.places.now
+last_lt c =
     rw c.last_index-last.ensures (index_lt c.requires.posed.0.placed _ c.requires.posed.0.are_symbols c.requires.posed.0.at_least (says_2 c) (λ e. c.if-last-places.false (c.last_index-last.ensures ∙ e)))
 
 pub chosen_place-at-requires : goal.chosen_place-at-requires
-chosen_place-at-requires c = last-lt c
+chosen_place-at-requires c = last_lt c
 
 -- whether L is zero at the k-th place
 says_3 : (c : goal.After-chosen_place-at)
@@ -72,12 +72,12 @@ says_3 : (c : goal.After-chosen_place-at)
 says_3 c = zero_last c.requires.posed.0.placed _ c.requires.posed.0.are_symbols c.requires.posed.0.at_least c.run-n.ensures.pair c.chosen_place-place.ensures c.zero_at-zero.ensures
 
 -- the last place is one of the list
-last-lt_2 : (c : goal.After-chosen_place-at) → c.last_index-last.result.0 < length c.args.places.now
-last-lt_2 c =
+last_lt_2 : (c : goal.After-chosen_place-at) → c.last_index-last.result.0 < length c.args.places.now
+last_lt_2 c =
     rw c.last_index-last.ensures (index_lt c.requires.posed.0.placed _ c.requires.posed.0.are_symbols c.requires.posed.0.at_least (says_3 c) (λ e. c.if-last-places.false (c.last_index-last.ensures ∙ e)))
 
 pub message_symbol-v-requires : goal.message_symbol-v-requires
-message_symbol-v-requires c = omega (arith, last-lt_2 c, c.requires.posed.0.lengths)
+message_symbol-v-requires c = omega (arith, last_lt_2 c, c.requires.posed.0.lengths)
 
 -- the pair and the interpolant have room where they stand
 has_room_2 : (c : goal.After-finish_at-arg-1)
@@ -97,8 +97,8 @@ says_4 : (c : goal.After-finish_at-arg-1)
 says_4 c = zero_last c.requires.posed.0.placed _ c.requires.posed.0.are_symbols c.requires.posed.0.at_least c.run-n.ensures.pair c.chosen_place-place.ensures c.zero_at-zero.ensures
 
 -- the last place is one of the list
-last-lt_3 : (c : goal.After-finish_at-arg-1) → c.last_index-last.result.0 < length c.args.places.now
-last-lt_3 c =
+last_lt_3 : (c : goal.After-finish_at-arg-1) → c.last_index-last.result.0 < length c.args.places.now
+last_lt_3 c =
     rw c.last_index-last.ensures (index_lt c.requires.posed.0.placed _ c.requires.posed.0.are_symbols c.requires.posed.0.at_least (says_4 c) (λ e. c.if-last-places.false (c.last_index-last.ensures ∙ e)))
 
 pub finish_at-requires : goal.finish_at-requires
@@ -108,7 +108,7 @@ finish_at-requires c =
     let k = (accepted c.requires.posed.0.placed).k_least in record {
       tables = c.requires.tables;
       place = (
-        rw c.chosen_place-at.ensures ((within c.requires.posed.0.placed (length c.args.places.now) (omega arith)).each_is_place _ (last-lt_3 c)),
+        rw c.chosen_place-at.ensures ((within c.requires.posed.0.placed (length c.args.places.now) (omega arith)).each_is_place _ (last_lt_3 c)),
         fits,
         word_fits,
         omega (arith, k, holds_length c.run-n.ensures.pair.low, few.low_length),

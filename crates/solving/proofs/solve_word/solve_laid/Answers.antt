@@ -45,12 +45,12 @@ says_2 c =
     arranged_zero c.requires.posed.0.placed c.requires.posed.1.firsts c.requires.posed.1.seconds _ c.requires.posed.0.are_symbols c.requires.posed.0.at_least c.run-n.new.l c.run-n.new.u c.run-n.result c.run-n.ensures.0 c.zero_chosen-zero.ensures
 
 -- the last place is one of the list
-last-lt : (c : goal.Else-last-places) → c.last_index-last.result.0 < length c.args.places.now
-last-lt c =
+last_lt : (c : goal.Else-last-places) → c.last_index-last.result.0 < length c.args.places.now
+last_lt c =
     omega (arith, c.last_index-last.ensures, index_lt c.requires.posed.0.placed _ c.requires.posed.0.are_symbols c.requires.posed.0.at_least (says_2 c) (λ e. c.if-last-places.false (c.last_index-last.ensures ∙ e)))
 
 pub message_symbol-v-requires : goal.message_symbol-v-requires
-message_symbol-v-requires c = omega (arith, last-lt c, c.requires.posed.0.lengths)
+message_symbol-v-requires c = omega (arith, last_lt c, c.requires.posed.0.lengths)
 
 -- whether L is zero at the k-th place
 says_3 : (c : goal.After-correct_at-arg-1)
@@ -60,8 +60,8 @@ says_3 c =
     arranged_zero c.requires.posed.0.placed c.requires.posed.1.firsts c.requires.posed.1.seconds _ c.requires.posed.0.are_symbols c.requires.posed.0.at_least c.run-n.new.l c.run-n.new.u c.run-n.result c.run-n.ensures.0 c.zero_chosen-zero.ensures
 
 -- the last place is one of the list
-last-lt_2 : (c : goal.After-correct_at-arg-1) → c.last_index-last.result.0 < length c.args.places.now
-last-lt_2 c =
+last_lt_2 : (c : goal.After-correct_at-arg-1) → c.last_index-last.result.0 < length c.args.places.now
+last_lt_2 c =
     omega (arith, c.last_index-last.ensures, index_lt c.requires.posed.0.placed _ c.requires.posed.0.are_symbols c.requires.posed.0.at_least (says_3 c) (λ e. c.if-last-places.false (c.last_index-last.ensures ∙ e)))
 
 pub correct_at-requires : goal.correct_at-requires
@@ -69,7 +69,7 @@ correct_at-requires c =
     let long = laid_points c.requires.posed.0.placed c.requires.posed.1 in record {
       tables = c.requires.tables;
       index_in_bounds = (
-        omega (arith, last-lt_2 c, few c.requires.posed.0.placed, long, c.requires.posed.2, c.run-n.auto.f),
+        omega (arith, last_lt_2 c, few c.requires.posed.0.placed, long, c.requires.posed.2, c.run-n.auto.f),
         omega (arith, laid_low c.requires.posed.0.placed c.requires.posed.1, long, c.requires.posed.2, c.run-n.auto.l, c.run-n.auto.f),
         omega (arith, laid_high c.requires.posed.0.placed c.requires.posed.1, long, c.requires.posed.2, c.run-n.auto.u, c.run-n.auto.f),
       );

@@ -12,34 +12,34 @@ returns-in_default c =
     no_field c.args.s.now (sym c.read_exactly-first.ensures ∙ ap (all_in c.args.s.now _) c.in_default.is)
 
 -- what was read so far
-field-read : (c : goal.In_default-second) → exactly field_key 1 c.args.s.now ≡ got c.read_exactly-first.new.out (drop c.in-At.second_line c.args.s.now)
-field-read c = sym c.read_exactly-first.ensures ∙ ap (all_in c.args.s.now c.read_exactly-first.new.out) c.in-At.is
+field_read : (c : goal.In_default-second) → exactly field_key 1 c.args.s.now ≡ got c.read_exactly-first.new.out (drop c.in-At.second_line c.args.s.now)
+field_read c = sym c.read_exactly-first.ensures ∙ ap (all_in c.args.s.now c.read_exactly-first.new.out) c.in-At.is
 
 pub returns-in_default-second : goal.returns-in_default-second
 returns-in_default-second c =
-    no_curve c.args.s.now _ _ (field-read c) (sym c.read_exactly-second.ensures ∙ ap (all_in c.args.s.now _) c.in_default-second.is)
+    no_curve c.args.s.now _ _ (field_read c) (sym c.read_exactly-second.ensures ∙ ap (all_in c.args.s.now _) c.in_default-second.is)
 
 -- what was read so far
-field-read_2 : (c : goal.In_default-third) → exactly field_key 1 c.args.s.now ≡ got c.read_exactly-first.new.out (drop c.in-At.second_line c.args.s.now)
-field-read_2 c = sym c.read_exactly-first.ensures ∙ ap (all_in c.args.s.now c.read_exactly-first.new.out) c.in-At.is
+field_read_2 : (c : goal.In_default-third) → exactly field_key 1 c.args.s.now ≡ got c.read_exactly-first.new.out (drop c.in-At.second_line c.args.s.now)
+field_read_2 c = sym c.read_exactly-first.ensures ∙ ap (all_in c.args.s.now c.read_exactly-first.new.out) c.in-At.is
 
-curve-read : (c : goal.In_default-third) →
+curve_read : (c : goal.In_default-third) →
     exactly curve_key 5 (drop c.in-At.second_line c.args.s.now) ≡ got c.read_exactly-second.new.out (drop c.in-At-second.third_line c.args.s.now)
-curve-read c = sym c.read_exactly-second.ensures ∙ ap (all_in c.args.s.now c.read_exactly-second.new.out) c.in-At-second.is
+curve_read c = sym c.read_exactly-second.ensures ∙ ap (all_in c.args.s.now c.read_exactly-second.new.out) c.in-At-second.is
 
 pub returns-in_default-third : goal.returns-in_default-third
 returns-in_default-third c =
-    no_dimension c.args.s.now _ _ (field-read_2 c) _ _ (curve-read c) (sym c.read_exactly-third.ensures ∙ ap (all_in c.args.s.now _) c.in_default-third.is)
+    no_dimension c.args.s.now _ _ (field_read_2 c) _ _ (curve_read c) (sym c.read_exactly-third.ensures ∙ ap (all_in c.args.s.now _) c.in_default-third.is)
 
 -- what was read so far
-field-read_3 : (c : goal.In-At-third) → exactly field_key 1 c.args.s.now ≡ got c.read_exactly-first.new.out (drop c.in-At.second_line c.args.s.now)
-field-read_3 c = sym c.read_exactly-first.ensures ∙ ap (all_in c.args.s.now c.read_exactly-first.new.out) c.in-At.is
+field_read_3 : (c : goal.In-At-third) → exactly field_key 1 c.args.s.now ≡ got c.read_exactly-first.new.out (drop c.in-At.second_line c.args.s.now)
+field_read_3 c = sym c.read_exactly-first.ensures ∙ ap (all_in c.args.s.now c.read_exactly-first.new.out) c.in-At.is
 
-curve-read_2 : (c : goal.In-At-third) →
+curve_read_2 : (c : goal.In-At-third) →
     exactly curve_key 5 (drop c.in-At.second_line c.args.s.now) ≡ got c.read_exactly-second.new.out (drop c.in-At-second.third_line c.args.s.now)
-curve-read_2 c = sym c.read_exactly-second.ensures ∙ ap (all_in c.args.s.now c.read_exactly-second.new.out) c.in-At-second.is
+curve_read_2 c = sym c.read_exactly-second.ensures ∙ ap (all_in c.args.s.now c.read_exactly-second.new.out) c.in-At-second.is
 
 pub returns : goal.returns
 returns c =
-    whole_header c.args.s.now _ _ (field-read_3 c) _ _ (curve-read_2 c) _ _
+    whole_header c.args.s.now _ _ (field_read_3 c) _ _ (curve_read_2 c) _ _
     (sym c.read_exactly-third.ensures ∙ ap (all_in c.args.s.now c.read_exactly-third.new.out) c.in-At-third.is)

@@ -19,36 +19,36 @@ starts_2 : (c : goal.After-put_numbers-arg-1) → Leads (c.args.key.now ++ (join
 unfolding line_of
 starts_2 c = leads_start c.requires
 
-after-key : (c : goal.After-put_numbers-arg-1) → Leads (joined c.args.l.now ++ line_end ∷ []) c.put_bytes-first.new.out c.put_bytes-first.result (line_of c.args.key.now c.args.l.now) c.args.out.now c.args.start
-after-key c = leads_on c.args.key.now (joined c.args.l.now ++ line_end ∷ []) (starts_2 c) c.put_bytes-first.ensures
+after_key : (c : goal.After-put_numbers-arg-1) → Leads (joined c.args.l.now ++ line_end ∷ []) c.put_bytes-first.new.out c.put_bytes-first.result (line_of c.args.key.now c.args.l.now) c.args.out.now c.args.start
+after_key c = leads_on c.args.key.now (joined c.args.l.now ++ line_end ∷ []) (starts_2 c) c.put_bytes-first.ensures
 
 pub put_numbers-end-requires : goal.put_numbers-end-requires
-put_numbers-end-requires c = leads_room (joined c.args.l.now) (line_end ∷ []) (after-key c)
+put_numbers-end-requires c = leads_room (joined c.args.l.now) (line_end ∷ []) (after_key c)
 
 -- what is left to write
 starts_3 : (c : goal.After-put-arg-1) → Leads (c.args.key.now ++ (joined c.args.l.now ++ line_end ∷ [])) c.args.out.now c.args.start (line_of c.args.key.now c.args.l.now) c.args.out.now c.args.start
 unfolding line_of
 starts_3 c = leads_start c.requires
 
-after-key_2 : (c : goal.After-put-arg-1) → Leads (joined c.args.l.now ++ line_end ∷ []) c.put_bytes-first.new.out c.put_bytes-first.result (line_of c.args.key.now c.args.l.now) c.args.out.now c.args.start
-after-key_2 c = leads_on c.args.key.now (joined c.args.l.now ++ line_end ∷ []) (starts_3 c) c.put_bytes-first.ensures
+after_key_2 : (c : goal.After-put-arg-1) → Leads (joined c.args.l.now ++ line_end ∷ []) c.put_bytes-first.new.out c.put_bytes-first.result (line_of c.args.key.now c.args.l.now) c.args.out.now c.args.start
+after_key_2 c = leads_on c.args.key.now (joined c.args.l.now ++ line_end ∷ []) (starts_3 c) c.put_bytes-first.ensures
 
-after-numbers : (c : goal.After-put-arg-1) → Leads (line_end ∷ []) c.put_numbers-end.new.out c.put_numbers-end.result (line_of c.args.key.now c.args.l.now) c.args.out.now c.args.start
-after-numbers c = leads_on (joined c.args.l.now) (line_end ∷ []) (after-key_2 c) c.put_numbers-end.ensures
+after_numbers : (c : goal.After-put-arg-1) → Leads (line_end ∷ []) c.put_numbers-end.new.out c.put_numbers-end.result (line_of c.args.key.now c.args.l.now) c.args.out.now c.args.start
+after_numbers c = leads_on (joined c.args.l.now) (line_end ∷ []) (after_key_2 c) c.put_numbers-end.ensures
 
 pub put-requires : goal.put-requires
-put-requires c = omega (arith, leads_room (line_end ∷ []) [] (after-numbers c))
+put-requires c = omega (arith, leads_room (line_end ∷ []) [] (after_numbers c))
 
 -- what is left to write
 starts_4 : (c : goal.After-slice_known-4-1) → Leads (c.args.key.now ++ (joined c.args.l.now ++ line_end ∷ [])) c.args.out.now c.args.start (line_of c.args.key.now c.args.l.now) c.args.out.now c.args.start
 unfolding line_of
 starts_4 c = leads_start c.requires
 
-after-key_3 : (c : goal.After-slice_known-4-1) → Leads (joined c.args.l.now ++ line_end ∷ []) c.put_bytes-first.new.out c.put_bytes-first.result (line_of c.args.key.now c.args.l.now) c.args.out.now c.args.start
-after-key_3 c = leads_on c.args.key.now (joined c.args.l.now ++ line_end ∷ []) (starts_4 c) c.put_bytes-first.ensures
+after_key_3 : (c : goal.After-slice_known-4-1) → Leads (joined c.args.l.now ++ line_end ∷ []) c.put_bytes-first.new.out c.put_bytes-first.result (line_of c.args.key.now c.args.l.now) c.args.out.now c.args.start
+after_key_3 c = leads_on c.args.key.now (joined c.args.l.now ++ line_end ∷ []) (starts_4 c) c.put_bytes-first.ensures
 
-after-numbers_2 : (c : goal.After-slice_known-4-1) → Leads (line_end ∷ []) c.put_numbers-end.new.out c.put_numbers-end.result (line_of c.args.key.now c.args.l.now) c.args.out.now c.args.start
-after-numbers_2 c = leads_on (joined c.args.l.now) (line_end ∷ []) (after-key_3 c) c.put_numbers-end.ensures
+after_numbers_2 : (c : goal.After-slice_known-4-1) → Leads (line_end ∷ []) c.put_numbers-end.new.out c.put_numbers-end.result (line_of c.args.key.now c.args.l.now) c.args.out.now c.args.start
+after_numbers_2 c = leads_on (joined c.args.l.now) (line_end ∷ []) (after_key_3 c) c.put_numbers-end.ensures
 
 pub returns : goal.returns
-returns c = leads_last (line_end ∷ []) [] (after-numbers_2 c) refl c.put.ensures
+returns c = leads_last (line_end ∷ []) [] (after_numbers_2 c) refl c.put.ensures

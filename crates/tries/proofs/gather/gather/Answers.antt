@@ -34,8 +34,8 @@ save-requires c =
     record { tables = c.requires.tables.0; slots_len = (c.loop-i.invariant.1.size, room) }
 
 -- a trust is a byte
-trust-lt : (c : goal.After-save) → get_or c.args.trusts.now c.loop-i.i 0 < 256
-trust-lt c = omega (arith, c.type_inv.trusts c.loop-i.i)
+trust_lt : (c : goal.After-save) → get_or c.args.trusts.now c.loop-i.i 0 < 256
+trust_lt c = omega (arith, c.type_inv.trusts c.loop-i.i)
 
 pub overflow_add-cost : goal.overflow_add-cost
 overflow_add-cost c =
@@ -46,7 +46,7 @@ overflow_add-cost c =
         c.loop-i.invariant.1.low,
         c.loop-i.invariant.0,
         c.requires.difference_len.3,
-        trust-lt c,
+        trust_lt c,
         c.always-more.ensures,
         always_le (galois c.args.m) (get_or c.args.trusts.now c.loop-i.i 0) (get_or c.args.row.now c.loop-i.i 0) x,
       );
@@ -63,7 +63,7 @@ pub loop-i-preserved : goal.loop-i-preserved
 loop-i-preserved c = (
   omega (arith, c.loop-i-test.true),
   pass_turn c.args.m c.args.half c.args.log c.args.trusts.now c.args.row.now c.args.late.now c.args.difference.now c.loop-i.invariant.1 c.requires.difference_len.2 c.requires.difference_len.1 c.requires.difference_len.0 c.loop-i-test.true
-      (trust-lt c) c.product_by_log.ensures c.always-more.ensures c.save.ensures,
+      (trust_lt c) c.product_by_log.ensures c.always-more.ensures c.save.ensures,
 )
 
 pub returns : goal.returns
