@@ -16,7 +16,7 @@ ghost use Rattle.rolling.specs.Bytes.{fresh_outcome, rolling_outcome};
 ghost use Rattle.sheet.specs.Job.{sheet_outcome};
 ghost use Rattle.abi.specs.Arguments.{curve_of, parameters_of, code_from};
 
-use basics::status;
+use basics::{count_status, status};
 use codewords::Parameters;
 use elliptic::Curve;
 
@@ -43,7 +43,7 @@ pub extern "C" fn vakhudle_points(
     ensures { Reports (points_outcome field (curve_of g1 g2 g3 g4 g6) xs.old ys.old) result
         (xs.old, ys.old) (xs.new, ys.new) }
 {
-    status(curve::points(field, Curve { g1, g2, g3, g4, g6 }, xs, ys))
+    count_status(curve::points(field, Curve { g1, g2, g3, g4, g6 }, xs, ys))
 }
 
 // Means.
@@ -81,7 +81,7 @@ pub extern "C" fn vakhudle_rolling(state: &mut [u8], hour: u32, mean: i16, out: 
 pub extern "C" fn vakhudle_sheet(text: &[u8], out: &mut [u8]) -> i32
     ensures { Reports (sheet_outcome text.now out.old) result out.old out.new }
 {
-    status(sheet::answer::answer_sheet(text, out))
+    count_status(sheet::answer::answer_sheet(text, out))
 }
 
 // The parts of a code but its coordinate lists.
@@ -131,7 +131,7 @@ pub extern "C" fn vakhudle_heard(
     ensures { Reports (heard_outcome (code_from field g1 g2 g3 g4 g6 k xs.now ys.now) mask.now out.old) result out.old out.new }
 {
     let parts = parameters(field, g1, g2, g3, g4, g6, k);
-    status(code::heard::heard(parts, xs, ys, mask, out))
+    count_status(code::heard::heard(parts, xs, ys, mask, out))
 }
 
 // Pack.
@@ -362,7 +362,7 @@ pub extern "C" fn vakhudle_correct(
         (out.old, work.old) (out.new, work.new) }
 {
     let parts = parameters(field, g1, g2, g3, g4, g6, k);
-    status(correction::operation::correct(parts, xs, ys, received, out, work))
+    count_status(correction::operation::correct(parts, xs, ys, received, out, work))
 }
 
 // Best.

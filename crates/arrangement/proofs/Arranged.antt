@@ -13,7 +13,7 @@ use lib.ListN.{length, get_or, set, take, drop, length-append, length-set, get_o
 use lib.Seq.{get_or-append_seam, get_or-set_same, get_or-set_other, take-suc, length-take-le, length_front}
 use Rattle.basics.specs.Lists.{any, table}
 use Rattle.basics.proofs.Lists.{any_append, any_get, length_table, get_or_table, is_table}
-use Rattle.engine.specs.Places.{coordinate_at, Chosen}
+use Rattle.engine.specs.Places.{coordinate_at}
 use Rattle.arrangement.specs.Arranged.{free_at, rank, Places, Apart, Gathered, Arrangeable, Arranged}
 
 -- ---- whether an index is free
@@ -158,9 +158,6 @@ module _ {J free from out : List ℕ} (h : Arrangeable J free from out) where
   mark_at : (t : ℕ) → t < length from → free_at J t ≡ get_or free t 0
   mark_at t l = sym (ap (λ f. get_or f t 0) h.frees ∙ get_or_table (free_at J) (length from) t 0 l)
 
-  pub mark_small : (t : ℕ) → t < length from → get_or free t 0 ≤ 1
-  mark_small t l = ⊎_elim (λ e. omega (arith, mark_at t l, e)) (λ e. omega (arith, mark_at t l, e)) (free_two J t)
-
   pub places_fit : length J ≤ length out
   places_fit = omega (arith, rank_all (length from) J h.places h.apart, h.room)
 
@@ -168,9 +165,6 @@ module _ {J free from out : List ℕ} (h : Arrangeable J free from out) where
   front_long = length-take-le (length J) out places_fit
 
   -- the coordinates at the places are gathered in the front
-  pub front_chosen : Chosen (length from) J (length (take (length J) out))
-  front_chosen = rw front_long (record { enough = omega arith; each_is_place = h.places })
-
   pub front_gathered : {front : List ℕ} → front ≡ table (coordinate_at from J) (length (take (length J) out)) → Gathered from J (front ++ drop (length J) out)
   front_gathered {front} e j l =
       let all : front ≡ table (coordinate_at from J) (length J) = e ∙ ap (table (coordinate_at from J)) front_long in
@@ -189,19 +183,16 @@ pub record ArrangedTo (from J out : List ℕ) (t s : ℕ) : Type 0 where
   pub next : s ≡ length J + rank (free_at J) t
   pub rest : (i : ℕ) → i < t → free_at J i ≡ 1 → get_or out (length J + rank (free_at J) i) 0 ≡ get_or from i 0
 
-pub arranged_none : (from J out : List ℕ) → length out ≡ length from → Gathered from J out → ArrangedTo from J out 0 (length J)
-arranged_none from J out e g = record { size = e; chosen = g; upto = omega arith; next = omega arith; rest = λ i l. absurd (omega arith) }
-
 module _ {J free from old out : List ℕ} {t s : ℕ} (h : Arrangeable J free from old) (a : ArrangedTo from J out t s) where
   -- while there is room, not all points have been seen
-  pub point_left : s < length from → t < length from
+  pub point_left : s < length out → t < length from
   point_left r = elim (ℕ_discrete t (length from)) [
-    | yes e ↦ omega (arith, ap (rank (free_at J)) e, rank_all (length from) J h.places h.apart, a.next)
+    | yes e ↦ omega (arith, ap (rank (free_at J)) e, rank_all (length from) J h.places h.apart, a.next, a.size)
     | no n ↦ omega (arith, a.upto)
   ]
 
   -- the point with index t is put there, whether it is free or not
-  pub arranged_turn : s < length from → {f : ℕ} → f ≡ get_or free t 0 → ArrangedTo from J (set out s (get_or from t 0)) (t + 1) (s + f)
+  pub arranged_turn : s < length out → {f : ℕ} → f ≡ get_or free t 0 → ArrangedTo from J (set out s (get_or from t 0)) (t + 1) (s + f)
   arranged_turn r {f} e =
       record {
         size = length-set out s (get_or from t 0) ∙ a.size;
@@ -212,17 +203,17 @@ module _ {J free from old out : List ℕ} {t s : ℕ} (h : Arrangeable J free fr
       }
     where
       rest : (i : ℕ) → i < t + 1 → free_at J i ≡ 1 → Dec (i ≡ t) → get_or (set out s (get_or from t 0)) (length J + rank (free_at J) i) 0 ≡ get_or from i 0
-      rest i k g (yes q) = rw (q, ← a.next) (get_or-set_same out s (get_or from t 0) 0 (rw a.size r))
+      rest i k g (yes q) = rw (q, ← a.next) (get_or-set_same out s (get_or from t 0) 0 r)
       rest i k g (no q) =
           get_or-set_other out s (length J + rank (free_at J) i) (get_or from t 0) 0 (λ d. omega (arith, a.next, rank_lt J i t (omega arith) g))
           ∙ a.rest i (omega arith) g
 
   -- no room is left, so no free point is
-  pub arranged_all : length from ≤ s → Arranged from J (length J) out
+  pub arranged_all : length out ≤ s → Arranged from J (length J) out
   arranged_all r = record { size = a.size; chosen = a.chosen; rest = λ i k g. a.rest i (seen i k g) g }
     where
       seen : (i : ℕ) → i < length from → free_at J i ≡ 1 → i < t
       seen i k g = elim (ℕ_discrete (t - i) 0) [
-        | yes z ↦ omega (arith, rank_le (free_at J) t i (omega arith), rank_inside (length from) J h.places h.apart i k g, a.next)
+        | yes z ↦ omega (arith, rank_le (free_at J) t i (omega arith), rank_inside (length from) J h.places h.apart i k g, a.next, a.size)
         | no z ↦ omega arith
       ]

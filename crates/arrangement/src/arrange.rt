@@ -5,18 +5,13 @@ ghost use Rattle.values.specs.Values.{one};
 ghost use Rattle.arrangement.specs.Arranged.{free_at, Places, Gathered, Arrangeable, Arranged};
 
 use basics::MessageIndex;
-use basics::byte::wide;
 use engine::places::{chosen_place, gather, index_of};
 
 // Ones: every index is free, and the values of L = 1.
 pub fn fill_ones(out: &mut [u8])
     ensures { out.new ≡ table one (length out.old) }
 {
-    let mut i = 0;
-    while i < out.len() {
-        out[i] = 1;
-        i += 1;
-    }
+    out.fill(1);
 }
 
 // 1 at the free indices, 0 at those of the places.
@@ -25,12 +20,10 @@ pub fn mark(places: &[u16], free: &mut [u8])
     ensures { free.new ≡ table (free_at places.now) (length free.old) }
 {
     fill_ones(free);
-    let mut j = 0;
-    while j < places.len() {
+    for j in 0..places.len() {
         let place = chosen_place(places, MessageIndex(j));
         let i = index_of(place);
         free[i] = 0;
-        j += 1;
     }
 }
 
@@ -45,7 +38,7 @@ fn place_rest(places: &[u16], free: &[u8], from: &[u8], out: &mut [u8])
     let mut t = 0;
     while s < out.len() {
         out[s] = from[t];
-        s += wide(free[t]);
+        s += usize::from(free[t]);
         t += 1;
     }
 }

@@ -4,9 +4,10 @@ use mathlib.Core.Bool.{Bool, true, false}
 use mathlib.Core.Path.{◌≡◌, refl, ap, ◌∙◌}
 use lib.IntN.{ℤ}
 use Rattle.basics.specs.declared.Refusal.{Refusal}
-use Rattle.basics.specs.declared.Answer.{Answer}
-use Rattle.basics.specs.declared.Answer.TheVariants.{Done, Counted, Refused}
-use Rattle.basics.specs.Outcome.{Outcome, refused, accepted, counted, check, answer, left, counts, status, Meets, Reports}
+use Prim.{tt}
+use Rattle.std.specs.Prelude.{Result, Ok, Err, IfOk}
+use Rattle.std.specs.Result.{IsErrAnd}
+use Rattle.basics.specs.Outcome.{count_of, answer_by, Answer, Done, Counted, Refused, Outcome, refused, accepted, counted, check, answer, left, counts, status, Meets, Reports}
 
 module _ {M : Type 0} where
   -- a test as an equation of outcomes
@@ -82,3 +83,25 @@ module _ {M₁ M₂ : Type 0} where
 
   pub count_pair : {n k : ℕ} {l₁ new₁ : M₁} {l₂ new₂ : M₂} {old : M₁ × M₂} → k ≡ n → new₁ ≡ l₁ → new₂ ≡ l₂ → Meets (counted n (l₁, l₂)) (Counted k) old (new₁, new₂)
   count_pair e e₁ e₂ = count e (rw (e₁, e₂))
+
+-- ---- a `?` passed a refusal on: what was lent is as it was
+
+module _ {A : Type 0} (f : A → Answer) where
+  pub exit_answer : {e : Refusal} {a : Answer} (r : Result A Refusal) → IsErrAnd r (λ d. d ≡ e) → Refused e ≡ a → answer_by f r ≡ a
+  exit_answer (Ok x) h k = absurd h
+  exit_answer (Err d) h k = rw h k
+
+module _ {M A : Type 0} (f : A → Answer) where
+  pub exit : {o : Outcome M} {e : Refusal} {old : M} (r : Result A Refusal) → IsErrAnd r (λ d. d ≡ e) → Meets o (Refused e) old old
+      → Meets o (answer_by f r) old old
+  exit (Ok a) h m = absurd h
+  exit (Err d) h m = rw h m
+
+-- a bound on what is counted, as one on the function's result
+pub count_small : (most : ℕ) (r : Result ℕ Refusal) → counts (count_of r) ≤ most → IfOk r (λ n. n ≤ most)
+count_small most (Ok n) h = h
+count_small most (Err e) h = tt
+
+pub count_within : {M : Type 0} {o : Outcome M} {old new : M} (most : ℕ) (r : Result ℕ Refusal) → Meets o (count_of r) old new → counts (answer o) ≤ most
+    → IfOk r (λ n. n ≤ most)
+count_within most r m h = count_small most r (rw m.answers h)

@@ -1,11 +1,11 @@
 -- What an operation answers, and what it leaves in the memory that it was lent.
+use Prim.{Unit}
 use Rattle.std.specs.Prelude.{ℕ, Bool, true, false, ◌≡◌, ℤ, pos, neg_ℤ}
+use Rattle.std.specs.Prelude.{Result, Ok, Err}
 use Rattle.basics.specs.declared.Refusal.{Refusal}
 use Rattle.basics.specs.declared.Refusal.TheVariants.{FieldNumber, CurveCoefficient, Singular, PointCount, OffCurve, RepeatedPoint, Dimension}
 use Rattle.basics.specs.declared.Refusal.TheVariants.{Length, Place, RepeatedPlace, Symbol, Dependent, TooFew, NoCodeword, Independent}
 use Rattle.basics.specs.declared.Refusal.TheVariants.{Reading, NeverPacked, StampOrder, Hour, SheetShape, TooFar, NoRun, Budget}
-use Rattle.basics.specs.declared.Answer.{Answer}
-use Rattle.basics.specs.declared.Answer.TheVariants.{Done, Counted, Refused}
 
 -- the number of documents 01 and 02 for each refusal
 abbrev pub number : Refusal → ℕ
@@ -32,6 +32,23 @@ number SheetShape = 20
 number TooFar = 21
 number NoRun = 22
 number Budget = 23
+
+-- what an operation answers: it accepts, with a count where it has one, or it refuses
+pub data Answer : Type 0 where
+  Done : Answer
+  Counted : ℕ → Answer
+  Refused : Refusal → Answer
+
+-- the answer of a function: of one that counts nothing, and of one that counts
+abbrev pub answer_by : {A : Type 0} → (A → Answer) → Result A Refusal → Answer
+answer_by f (Ok a) = f a
+answer_by f (Err e) = Refused e
+
+abbrev pub answer_of : Result (Unit {0}) Refusal → Answer
+answer_of = answer_by (λ _. Done)
+
+abbrev pub count_of : Result ℕ Refusal → Answer
+count_of = answer_by Counted
 
 -- what an answer counts
 abbrev pub counts : Answer → ℕ

@@ -1,46 +1,35 @@
 // What every operation answers, and the two numberings that may not be taken for one another.
 #![tactic(auto)]
 
-pub mod byte;
-pub mod short;
-
-ghost use Rattle.std.specs.Prelude.{◌≡◌, ◌≤◌};
-ghost use Rattle.basics.specs.Outcome.{number, counts, status};
+ghost use Rattle.std.specs.Prelude.{◌≡◌, ◌≤◌, IfOk};
+ghost use Rattle.basics.specs.Outcome.{number, status, answer_of, count_of};
 
 // Why an operation refuses: one case for each number of documents 01 and 02.
-#[derive(Clone, Copy)]
+#[derive(Clone, Copy, PartialEq, Eq, Debug)]
 pub enum Refusal {
-    FieldNumber,
-    CurveCoefficient,
-    Singular,
-    PointCount,
-    OffCurve,
-    RepeatedPoint,
-    Dimension,
-    Length,
-    Place,
-    RepeatedPlace,
-    Symbol,
-    Dependent,
-    TooFew,
-    NoCodeword,
-    Independent,
-    Reading,
-    NeverPacked,
-    StampOrder,
-    Hour,
-    SheetShape,
-    TooFar,
-    NoRun,
-    Budget,
-}
-
-// Accepted, with a count where the operation has one, or refused.
-#[derive(Clone, Copy)]
-pub enum Answer {
-    Done,
-    Counted(usize),
-    Refused(Refusal),
+    FieldNumber = 1,
+    CurveCoefficient = 2,
+    Singular = 3,
+    PointCount = 4,
+    OffCurve = 5,
+    RepeatedPoint = 6,
+    Dimension = 7,
+    Length = 8,
+    Place = 9,
+    RepeatedPlace = 10,
+    Symbol = 11,
+    Dependent = 12,
+    TooFew = 13,
+    NoCodeword = 14,
+    Independent = 15,
+    Reading = 16,
+    NeverPacked = 17,
+    StampOrder = 18,
+    Hour = 19,
+    SheetShape = 20,
+    TooFar = 21,
+    NoRun = 22,
+    Budget = 23,
 }
 
 // A place of a codeword: 1 to n.
@@ -55,41 +44,23 @@ pub struct MessageIndex(pub usize);
 pub fn number(refusal: Refusal) -> u8
     ensures { result ≡ number refusal }
 {
-    match refusal {
-        Refusal::FieldNumber => 1,
-        Refusal::CurveCoefficient => 2,
-        Refusal::Singular => 3,
-        Refusal::PointCount => 4,
-        Refusal::OffCurve => 5,
-        Refusal::RepeatedPoint => 6,
-        Refusal::Dimension => 7,
-        Refusal::Length => 8,
-        Refusal::Place => 9,
-        Refusal::RepeatedPlace => 10,
-        Refusal::Symbol => 11,
-        Refusal::Dependent => 12,
-        Refusal::TooFew => 13,
-        Refusal::NoCodeword => 14,
-        Refusal::Independent => 15,
-        Refusal::Reading => 16,
-        Refusal::NeverPacked => 17,
-        Refusal::StampOrder => 18,
-        Refusal::Hour => 19,
-        Refusal::SheetShape => 20,
-        Refusal::TooFar => 21,
-        Refusal::NoRun => 22,
-        Refusal::Budget => 23,
+    refusal as u8
+}
+
+// A count or the refusal, as one signed number: a refusal is minus its number.
+pub fn count_status(answer: Result<usize, Refusal>) -> i32
+    requires { IfOk answer (λ n. n ≤ 65535) }
+    ensures { result ≡ status (count_of answer) }
+{
+    match answer {
+        Ok(count) => count as i32,
+        Err(refusal) => -i32::from(number(refusal)),
     }
 }
 
-// An answer as one signed number: 0, a count, or minus the number of a refusal.
-pub fn status(answer: Answer) -> i32
-    requires { counts answer ≤ 65535 }
-    ensures { result ≡ status answer }
+// The same of an operation that counts nothing: 0 where it accepts.
+pub fn status(answer: Result<(), Refusal>) -> i32
+    ensures { result ≡ status (answer_of answer) }
 {
-    match answer {
-        Answer::Done => 0,
-        Answer::Counted(count) => count as i32,
-        Answer::Refused(refusal) => -(number(refusal) as i32),
-    }
+    count_status(answer.map(|()| 0))
 }

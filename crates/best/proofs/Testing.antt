@@ -1,16 +1,25 @@
--- The test of the budget by its two bounds, and the three lists that are lent, each shown by itself.
+-- The test of the symbols, that of the budget by its two bounds, and the three lists that are lent, each shown by itself.
 use Prim.Native.Nat.{ℕ, ◌<◌, ◌≤◌}
-use mathlib.Core.Path.{◌≡◌, ap, ap₂}
-use mathlib.Core.Bool.{true, false, ◌&&◌}
+use mathlib.Core.Path.{◌≡◌, sym, ◌∙◌, ap, ap₂}
+use mathlib.Core.Bool.{Bool, true, false, ◌&&◌}
+use mathlib.Core.List.{List}
 use lib.Dec.{leb}
 use borrow.Author.Tests.{le-leb, lt-leb}
-use Rattle.basics.specs.Outcome.{accepted, Meets}
-use Rattle.basics.specs.declared.Answer.TheVariants.{Done}
+use Rattle.basics.specs.Lists.{all}
+use Rattle.basics.specs.Outcome.{Done, accepted, Meets}
 use Rattle.basics.proofs.Outcomes.{accept}
+use Rattle.code.specs.Lists.{is_below}
+use Rattle.codewords.specs.Code.{Code, q}
+use Rattle.codewords.specs.Codewords.{symbols}
 use Rattle.best.specs.Outcomes.{is_budget}
 
-pub no_budget : (budget : ℕ) → budget < 1 → is_budget budget ≡ false
-no_budget budget h = ap (λ b. b && leb budget 65535) (lt-leb 1 budget h)
+-- the test of the symbols, by the size of the field
+pub symbols_tested : (code : Code) (received : List ℕ) {size : ℕ} {r : Bool} → size ≡ q code → r ≡ all (is_below size) received → symbols code received ≡ r
+unfolding symbols
+symbols_tested code received e h = ap (λ s. all (is_below s) received) (sym e) ∙ sym h
+
+pub low_budget : (budget : ℕ) → budget < 1 → is_budget budget ≡ false
+low_budget budget h = ap (λ b. b && leb budget 65535) (lt-leb 1 budget h)
 
 pub high_budget : (budget : ℕ) → 1 ≤ budget → 65535 < budget → is_budget budget ≡ false
 high_budget budget h g = ap₂ (λ a b. a && b) (le-leb 1 budget h) (lt-leb budget 65535 g)

@@ -58,7 +58,7 @@ module _ {code : Code} {received trusts J work : List ℕ} (p : Prepared code re
   -- the difference brings the word back
   base_word : {out : List ℕ} → out ≡ changed received (take (6 * n code + n code - 6 * n code) (drop (6 * n code) work)) → out ≡ word (none code.k)
   base_word e =
-      e ∙ ap (changed received) (base_part (n code) work ∙ p.base)
+      e ∙ ap (changed received) (base_part p)
       ∙ changed_twice received (word (none code.k))
       (given.size
       ∙ sym (codeword_length code given.done trusts (word (none code.k)) (word_codeword code given.done received trusts given.small given.size none_small)))

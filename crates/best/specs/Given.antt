@@ -1,6 +1,6 @@
 -- What Best has in hand once its tests have passed.
+use Rattle.basics.specs.Outcome.{Done}
 use Rattle.std.specs.Prelude.{ℕ, ◌≡◌, true, List, length}
-use Rattle.basics.specs.declared.Answer.TheVariants.{Done}
 use Rattle.codewords.specs.Code.{Code, n, code_answer}
 use Rattle.codewords.specs.Codewords.{symbols}
 

@@ -1,5 +1,5 @@
 // Best: the cheapest codeword of so many tries.
-#![tactic(auto)]
+#![tactic(auto, using(picked_rows::proofs::Few::few))]
 
 pub mod figures;
 pub mod operation;

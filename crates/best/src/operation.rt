@@ -1,104 +1,77 @@
 // Best: the cheapest codeword of so many tries, with its cost, the tries made and the gap.
+ghost use Rattle.codewords.specs.Code.{code_of};
 ghost use Rattle.std.specs.Prelude.{◌≡◌, ◌≤◌, length};
-ghost use Rattle.basics.specs.Outcome.{Meets};
-ghost use Rattle.basics.specs.declared.Answer.TheVariants.{Done};
-ghost use Rattle.field.specs.Tables.{Tables};
-ghost use Rattle.codewords.specs.Code.{code_of, code_answer};
+ghost use Rattle.basics.specs.Outcome.{Meets, answer_of};
+ghost use Rattle.code.specs.Shown.{shown};
 ghost use Rattle.solving.specs.Tests.{room};
 ghost use Rattle.best.specs.Outcomes.{best_outcome};
 ghost use Rattle.best.specs.Stages.{best_sized, best_tested};
 
 use crate::run::best_run;
-use basics::{Answer, Refusal};
+use basics::Refusal;
+use code::accepted::Code;
 use code::lists::all_below;
-use code::test::test_code_with;
 use codewords::Parameters;
-use field::{is_field, logarithms, powers, size};
+use field::Field;
 use solving::work::ROOM;
+
+// The greatest budget.
+const MOST_TRIES: u32 = 65535;
 
 // Best of lists that have the right lengths.
 fn best_sized(
-    p: Parameters,
-    powers: &[u8; 1021],
-    logs: &[u16; 512],
-    xs: &[u8],
-    ys: &[u8],
+    code: &Code,
     received: &[u8],
     trusts: &[u8],
     budget: u32,
     out: &mut [u8],
     figures: &mut [u32],
     work: &mut [u8],
-) -> Answer
-    requires tables { Tables p.field powers.now logs.now }
-    requires ys_value { code_answer (code_of p xs.now ys.now) ≡ Done }
-    requires received_len { (length received.now ≡ length xs.now) × (length trusts.now ≡ length xs.now) × (length out.old ≡ length xs.now) × (length figures.old ≡ 3) × (room ≤ length work.old) }
-    ensures { Meets (best_sized (code_of p xs.now ys.now) received.now trusts.now budget work.old) result
+) -> Result<(), Refusal>
+    requires received_len { (length received.now ≡ length code.now.xs.now) × (length trusts.now ≡ length code.now.xs.now) × (length out.old ≡ length code.now.xs.now) × (length figures.old ≡ 3) × (room ≤ length work.old) }
+    ensures { Meets (best_sized (shown code.now) received.now trusts.now budget work.old) (answer_of result)
         (out.old, figures.old, work.old) (out.new, figures.new, work.new) }
 {
-    if !all_below(size(p.field), received) {
-        return Answer::Refused(Refusal::Symbol);
+    if !all_below(code.field.size(), received) {
+        return Err(Refusal::Symbol);
     }
-    if budget < 1 {
-        return Answer::Refused(Refusal::Budget);
+    if budget < 1 || MOST_TRIES < budget {
+        return Err(Refusal::Budget);
     }
-    if 65535 < budget {
-        return Answer::Refused(Refusal::Budget);
-    }
-    best_run(
-        p,
-        powers,
-        logs,
-        xs,
-        ys,
-        received,
-        trusts,
-        budget as usize,
-        out,
-        figures,
-        work,
-    );
-    Answer::Done
+    best_run(code, received, trusts, budget as usize, out, figures, work);
+    Ok(())
 }
 
 // Best of a code that passed the code test.
 fn best_tested(
-    p: Parameters,
-    powers: &[u8; 1021],
-    logs: &[u16; 512],
-    xs: &[u8],
-    ys: &[u8],
+    code: &Code,
     received: &[u8],
     trusts: &[u8],
     budget: u32,
     out: &mut [u8],
     figures: &mut [u32],
     work: &mut [u8],
-) -> Answer
-    requires tables { Tables p.field powers.now logs.now }
-    requires ys_value { code_answer (code_of p xs.now ys.now) ≡ Done }
-    ensures { Meets (best_tested (code_of p xs.now ys.now) received.now trusts.now budget out.old figures.old work.old) result
+) -> Result<(), Refusal>
+    ensures { Meets (best_tested (shown code.now) received.now trusts.now budget out.old figures.old work.old) (answer_of result)
         (out.old, figures.old, work.old) (out.new, figures.new, work.new) }
 {
-    let n = xs.len();
+    let n = code.xs.len();
     if received.len() != n {
-        return Answer::Refused(Refusal::Length);
+        return Err(Refusal::Length);
     }
     if trusts.len() != n {
-        return Answer::Refused(Refusal::Length);
+        return Err(Refusal::Length);
     }
     if out.len() != n {
-        return Answer::Refused(Refusal::Length);
+        return Err(Refusal::Length);
     }
     if figures.len() != 3 {
-        return Answer::Refused(Refusal::Length);
+        return Err(Refusal::Length);
     }
     if work.len() < ROOM {
-        return Answer::Refused(Refusal::Length);
+        return Err(Refusal::Length);
     }
-    best_sized(
-        p, powers, logs, xs, ys, received, trusts, budget, out, figures, work,
-    )
+    best_sized(code, received, trusts, budget, out, figures, work)
 }
 
 // The n symbols of the cheapest codeword of so many tries, and its figures: cost, tries made and gap.
@@ -112,21 +85,11 @@ pub fn best(
     out: &mut [u8],
     figures: &mut [u32],
     work: &mut [u8],
-) -> Answer
-    ensures { Meets (best_outcome (code_of code xs.now ys.now) received.now trusts.now budget out.old figures.old work.old) result
+) -> Result<(), Refusal>
+    ensures { Meets (best_outcome (code_of code xs.now ys.now) received.now trusts.now budget out.old figures.old work.old) (answer_of result)
         (out.old, figures.old, work.old) (out.new, figures.new, work.new) }
 {
-    let m = code.field;
-    if !is_field(m) {
-        return Answer::Refused(Refusal::FieldNumber);
-    }
-    let powers = powers(m);
-    let logs = logarithms(m);
-    let tested = test_code_with(code, &powers, &logs, xs, ys);
-    if let Answer::Done = tested {
-        return best_tested(
-            code, &powers, &logs, xs, ys, received, trusts, budget, out, figures, work,
-        );
-    }
-    tested
+    let field = Field::new(code.field)?;
+    let accepted = Code::new(&field, code.curve, code.k, xs, ys)?;
+    best_tested(&accepted, received, trusts, budget, out, figures, work)
 }

@@ -1,7 +1,6 @@
 // Best past its tests. The working space is used, since nothing is refused any more.
 ghost use Rattle.std.specs.Prelude.{◌≡◌, ◌≤◌, length, take, drop};
-ghost use Rattle.field.specs.Tables.{Tables};
-ghost use Rattle.codewords.specs.Code.{code_of};
+ghost use Rattle.code.specs.Shown.{shown};
 ghost use Rattle.solving.specs.Tests.{room, cleared};
 ghost use Rattle.patterns.specs.Best.{best, best_cost};
 ghost use Rattle.picked_rows.specs.Stored.{Prepared};
@@ -10,7 +9,7 @@ ghost use Rattle.best.specs.Given.{Given};
 
 use crate::figures::write_figures;
 use crate::write::write_word;
-use codewords::Parameters;
+use code::accepted::Code;
 use picked_rows::base::prepare;
 use ranked::pick::pick_ranked;
 use ranked::rank::rank;
@@ -19,46 +18,26 @@ use solving::work::clear_room;
 
 // The places ranked and picked, and in the working space all that the tries need. An array is lent while it is computed.
 fn begin_best(
-    p: Parameters,
-    powers: &[u8; 1021],
-    logs: &[u16; 512],
-    xs: &[u8],
-    ys: &[u8],
+    code: &Code,
     received: &[u8],
     trusts: &[u8],
     ranked: &mut [u16],
     spare: &mut [u8],
     work: &mut [u8],
 )
-    requires tables { Tables p.field powers.now logs.now }
-    requires given { Given (code_of p xs.now ys.now) received.now trusts.now × (length ranked.old ≡ length xs.now) × (length spare.old ≡ length xs.now) × (room ≤ length work.old) }
-    ensures { Prepared (code_of p xs.now ys.now) received.now trusts.now (take p.k ranked.new) work.new
+    requires given { Given (shown code.now) received.now trusts.now × (length ranked.old ≡ length code.now.xs.now) × (length spare.old ≡ length code.now.xs.now) × (room ≤ length work.old) }
+    ensures { Prepared (shown code.now) received.now trusts.now (take code.now.k ranked.new) work.new
         × (drop room work.new ≡ drop room work.old) }
 {
     rank(trusts, ranked);
-    pick_ranked(p, powers, logs, xs, ys, ranked);
-    let k = p.k;
-    prepare(
-        p,
-        powers,
-        logs,
-        xs,
-        ys,
-        received,
-        trusts,
-        &ranked[..k],
-        spare,
-        work,
-    );
+    pick_ranked(code, ranked);
+    let k = code.k;
+    prepare(code, received, trusts, &ranked[..k], spare, work);
 }
 
 // The word, with its cost. Beside it an array of its own for the rows.
 fn find_best(
-    p: Parameters,
-    powers: &[u8; 1021],
-    logs: &[u16; 512],
-    xs: &[u8],
-    ys: &[u8],
+    code: &Code,
     received: &[u8],
     trusts: &[u8],
     places: &[u16],
@@ -66,19 +45,14 @@ fn find_best(
     work: &[u8],
     out: &mut [u8],
 ) -> u32
-    requires tables { Tables p.field powers.now logs.now }
-    requires prepared { Prepared (code_of p xs.now ys.now) received.now trusts.now places.now work.now × (length out.old ≡ length xs.now) × (1 ≤ budget) }
-    ensures { (out.new ≡ best (code_of p xs.now ys.now) received.now trusts.now budget)
-        × (result ≡ best_cost (code_of p xs.now ys.now) received.now trusts.now budget) }
+    requires prepared { Prepared (shown code.now) received.now trusts.now places.now work.now × (length out.old ≡ length code.now.xs.now) × (1 ≤ budget) }
+    ensures { (out.new ≡ best (shown code.now) received.now trusts.now budget)
+        × (result ≡ best_cost (shown code.now) received.now trusts.now budget) }
 {
-    let n = xs.len();
+    let n = code.xs.len();
     let mut row = [0u8; 288];
     let found = search(
-        p,
-        powers,
-        logs,
-        xs,
-        ys,
+        code,
         received,
         trusts,
         places,
@@ -88,11 +62,7 @@ fn find_best(
         budget,
     );
     write_word(
-        p,
-        powers,
-        logs,
-        xs,
-        ys,
+        code,
         received,
         trusts,
         places,
@@ -106,11 +76,7 @@ fn find_best(
 
 // The word and its figures. The list of ranked places is lent.
 fn best_in(
-    p: Parameters,
-    powers: &[u8; 1021],
-    logs: &[u16; 512],
-    xs: &[u8],
-    ys: &[u8],
+    code: &Code,
     received: &[u8],
     trusts: &[u8],
     budget: usize,
@@ -119,39 +85,22 @@ fn best_in(
     figures: &mut [u32],
     work: &mut [u8],
 )
-    requires tables { Tables p.field powers.now logs.now }
-    requires given { Given (code_of p xs.now ys.now) received.now trusts.now × (length ranked.old ≡ length xs.now) × (length out.old ≡ length xs.now) × (length figures.old ≡ 3)
+    requires given { Given (shown code.now) received.now trusts.now × (length ranked.old ≡ length code.now.xs.now) × (length out.old ≡ length code.now.xs.now) × (length figures.old ≡ 3)
         × (room ≤ length work.old) × (1 ≤ budget) × (budget ≤ 65535) }
-    ensures { (out.new ≡ best (code_of p xs.now ys.now) received.now trusts.now budget)
-        × (figures.new ≡ figures_of (code_of p xs.now ys.now) received.now trusts.now budget)
+    ensures { (out.new ≡ best (shown code.now) received.now trusts.now budget)
+        × (figures.new ≡ figures_of (shown code.now) received.now trusts.now budget)
         × (work.new ≡ cleared work.old) }
 {
-    begin_best(p, powers, logs, xs, ys, received, trusts, ranked, out, work);
-    let k = p.k;
-    let cost = find_best(
-        p,
-        powers,
-        logs,
-        xs,
-        ys,
-        received,
-        trusts,
-        &ranked[..k],
-        budget,
-        work,
-        out,
-    );
-    write_figures(p.field, trusts, &ranked[..k], budget, cost, figures);
+    begin_best(code, received, trusts, ranked, out, work);
+    let k = code.k;
+    let cost = find_best(code, received, trusts, &ranked[..k], budget, work, out);
+    write_figures(code.field, trusts, &ranked[..k], budget, cost, figures);
     clear_room(work);
 }
 
 // The same with a list of its own: 576 bytes.
 pub fn best_run(
-    p: Parameters,
-    powers: &[u8; 1021],
-    logs: &[u16; 512],
-    xs: &[u8],
-    ys: &[u8],
+    code: &Code,
     received: &[u8],
     trusts: &[u8],
     budget: usize,
@@ -159,21 +108,16 @@ pub fn best_run(
     figures: &mut [u32],
     work: &mut [u8],
 )
-    requires tables { Tables p.field powers.now logs.now }
-    requires given { Given (code_of p xs.now ys.now) received.now trusts.now × (length out.old ≡ length xs.now) × (length figures.old ≡ 3)
+    requires given { Given (shown code.now) received.now trusts.now × (length out.old ≡ length code.now.xs.now) × (length figures.old ≡ 3)
         × (room ≤ length work.old) × (1 ≤ budget) × (budget ≤ 65535) }
-    ensures { (out.new ≡ best (code_of p xs.now ys.now) received.now trusts.now budget)
-        × (figures.new ≡ figures_of (code_of p xs.now ys.now) received.now trusts.now budget)
+    ensures { (out.new ≡ best (shown code.now) received.now trusts.now budget)
+        × (figures.new ≡ figures_of (shown code.now) received.now trusts.now budget)
         × (work.new ≡ cleared work.old) }
 {
-    let n = xs.len();
+    let n = code.xs.len();
     let mut ranked = [0u16; 288];
     best_in(
-        p,
-        powers,
-        logs,
-        xs,
-        ys,
+        code,
         received,
         trusts,
         budget,

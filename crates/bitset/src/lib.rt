@@ -7,23 +7,14 @@ ghost use Rattle.std.proofs.lemmas.List.Edits.{sets};
 ghost use Rattle.basics.specs.SetBits.{little_endian};
 ghost use Rattle.bitset.specs.Places.{places_of};
 
-// A cast in a function of its own asks nothing of its caller.
-fn wide(x: u8) -> u64
-    ensures { result ≡ x }
-{
-    x as u64
-}
-
 // The eight bytes from an index on, as one number, the lowest byte first.
 pub fn word(bytes: &[u8], at: usize) -> u64
     requires { at + 8 ≤ length bytes.now }
     ensures { result ≡ little_endian (take 8 (drop at bytes.now)) }
 {
     let mut x = 0u64;
-    let mut j = 0;
-    while j < 8 {
-        x = x | (wide(bytes[at + j]) << (8 * j));
-        j += 1;
+    for j in 0..8 {
+        x |= u64::from(bytes[at + j]) << (8 * j);
     }
     x
 }
@@ -36,9 +27,9 @@ pub fn list_set(x: u64, before: u16, out: &mut [u16], from: usize) -> usize
     let mut rest = x;
     let mut at = from;
     while rest != 0 {
-        out[at] = before + u64::trailing_zeros(rest) as u16 + 1;
-        rest = rest & (rest - 1);
+        out[at] = before + rest.trailing_zeros() as u16 + 1;
+        rest &= rest - 1;
         at += 1;
     }
-    from + u64::count_ones(x) as usize
+    from + x.count_ones() as usize
 }

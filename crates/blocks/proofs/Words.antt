@@ -1,4 +1,5 @@
 -- The values that a loop over the coordinates writes are the codeword of the function.
+use Rattle.basics.specs.Outcome.{Done}
 use Prim.Native.Nat.{ℕ}
 use mathlib.Core.Bool.{true}
 use mathlib.Core.Path.{◌≡◌, sym, ◌∙◌, ap}
@@ -6,7 +7,6 @@ use mathlib.Core.List.{List}
 use borrow.Author.Tests.{eq-eqb}
 use lib.ListN.{length}
 use Rattle.basics.specs.Lists.{table}
-use Rattle.basics.specs.declared.Answer.TheVariants.{Done}
 use Rattle.basics.proofs.Lists.{both_true}
 use Rattle.codewords.specs.Code.{Code, n, code_answer}
 use Rattle.codewords.specs.Codewords.{symbols, message, word}

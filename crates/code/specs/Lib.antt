@@ -4,3 +4,5 @@ pub mod Lists
 pub mod Points
 pub mod Slots
 pub mod Words
+pub mod Parts
+pub mod Shown

@@ -2,8 +2,7 @@
 use Prim.{Unit, tt}
 use Rattle.std.specs.Prelude.{ℕ, Bool, ◌&&◌, List, ◌≡◌, eqb, leb, ltb, length}
 use Rattle.basics.specs.Lists.{all, different, table}
-use Rattle.basics.specs.Outcome.{accepted, check, answer}
-use Rattle.basics.specs.declared.Answer.{Answer}
+use Rattle.basics.specs.Outcome.{Answer, accepted, check, answer}
 use Rattle.basics.specs.declared.Refusal.TheVariants.{Singular, PointCount, OffCurve, RepeatedPoint, Dimension}
 use Rattle.field.specs.Field.{Arithmetic}
 use Rattle.field.specs.Galois.{galois}

@@ -3,19 +3,15 @@ ghost use Rattle.std.specs.Prelude.{◌≡◌, true, replicate, eqb};
 ghost use Rattle.basics.specs.Lists.{all, different};
 ghost use Rattle.code.specs.Lists.{is_place, is_below};
 
-use basics::{byte, short};
-
 // Every place is 1 to n.
 pub fn all_places(n: usize, places: &[u16]) -> bool
     ensures { result ≡ all (is_place n) places.now }
 {
     let mut right = true;
-    let mut i = 0;
-    while i < places.len() {
-        let p = short::wide(places[i]);
+    for place in places {
+        let p = usize::from(*place);
         let inside = (1 <= p) & (p <= n);
         right = right & inside;
-        i += 1;
     }
     right
 }
@@ -25,11 +21,9 @@ pub fn all_below(q: usize, symbols: &[u8]) -> bool
     ensures { result ≡ all (is_below q) symbols.now }
 {
     let mut right = true;
-    let mut i = 0;
-    while i < symbols.len() {
-        let u = byte::wide(symbols[i]);
+    for symbol in symbols {
+        let u = usize::from(*symbol);
         right = right & (u < q);
-        i += 1;
     }
     right
 }
@@ -41,12 +35,10 @@ fn unmarked(list: &[u16], seen: &mut [u8]) -> bool
     ensures { result ≡ different eqb list.now }
 {
     let mut apart = true;
-    let mut i = 0;
-    while i < list.len() {
-        let s = short::wide(list[i]);
+    for i in 0..list.len() {
+        let s = usize::from(list[i]);
         apart = apart & (seen[s] != 1);
         seen[s] = 1;
-        i += 1;
     }
     apart
 }

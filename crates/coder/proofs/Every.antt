@@ -7,10 +7,9 @@ use native.Mathlib.Omega.{arith}
 use lib.Dec.{eqb, leb}
 use lib.ListN.{length, get_or, take}
 use borrow.Author.Tests.{le-leb, ne_eqb}
-use Rattle.basics.specs.declared.Answer.TheVariants.{Done}
 use Rattle.basics.specs.declared.Refusal.TheVariants.{Place, RepeatedPlace, Dependent, TooFew}
 use Rattle.basics.specs.Lists.{same, table, Holds}
-use Rattle.basics.specs.Outcome.{Outcome}
+use Rattle.basics.specs.Outcome.{Done, Outcome}
 use Rattle.basics.proofs.Lists.{both_true, length_table, get_or_table, table_as, table_get, map_table, all_table, different_of}
 use Rattle.basics.proofs.Outcomes.{check_true}
 use Rattle.elliptic.specs.Curve.{point}

@@ -1,3 +1,4 @@
 -- The laws of the operations over places.
 pub mod Results
 pub mod Every
+pub mod Prepared

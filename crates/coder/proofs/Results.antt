@@ -1,4 +1,5 @@
 -- What stands in the arrays after the tests is what the definitions say: the function, its codeword, and whether that agrees.
+use Rattle.basics.specs.Outcome.{Done}
 use Prim.Native.Nat.{ℕ}
 use mathlib.Core.Path.{◌≡◌, sym, ◌∙◌, ap}
 use mathlib.Core.Bool.{Bool, true}
@@ -7,7 +8,6 @@ use lib.Dec.{eqb}
 use lib.ListN.{length, take}
 use native.Mathlib.Omega.{arith}
 use borrow.Author.Tests.{eq-eqb}
-use Rattle.basics.specs.declared.Answer.TheVariants.{Done}
 use Rattle.basics.specs.declared.MessageIndex.{MessageIndex}
 use Rattle.basics.proofs.Lists.{both_true, both_left}
 use Rattle.elliptic.specs.Pair.{padded}

@@ -8,10 +8,9 @@ use lib.Dec.{eqb, ltb, leb}
 use lib.ListN.{length}
 use borrow.Author.Tests.{eqb-true, eqb-false, leb-true, ltb-true, not-true, eq-eqb}
 use Rattle.basics.specs.Lists.{all, different}
-use Rattle.basics.specs.Outcome.{Outcome, refused, accepted, counted, check, answer}
+use Rattle.basics.specs.Outcome.{Done, Refused, Outcome, refused, accepted, counted, check, answer}
 use Rattle.basics.specs.declared.Refusal.{Refusal}
 use Rattle.basics.specs.declared.Refusal.TheVariants.{FieldNumber, CurveCoefficient, Singular, PointCount, OffCurve, RepeatedPoint, Dimension}
-use Rattle.basics.specs.declared.Answer.TheVariants.{Done, Refused}
 use Rattle.basics.proofs.Lists.{both_left, both_right, both_true}
 use Rattle.basics.proofs.Outcomes.{passed}
 use Rattle.field.specs.Field.{Field}

@@ -9,8 +9,7 @@ use mathlib.Core.List.{List, Memᴰ as In}
 use native.Mathlib.Omega.{arith}
 use borrow.Author.Tests.{eq-eqb, lt-ltb}
 use Rattle.basics.specs.Lists.{table}
-use Rattle.basics.specs.Outcome.{refused, accepted, check, answer}
-use Rattle.basics.specs.declared.Answer.TheVariants.{Refused}
+use Rattle.basics.specs.Outcome.{Refused, refused, accepted, check, answer}
 use Rattle.basics.specs.declared.Refusal.TheVariants.{FieldNumber, CurveCoefficient, Singular}
 use Rattle.basics.proofs.Lists.{map_table}
 use Rattle.basics.proofs.Outcomes.{check_true, check_false}
@@ -18,7 +17,7 @@ use Rattle.field.specs.Sum.{◌⊕◌}
 use Rattle.field.specs.Field.{Arithmetic, Field}
 use Rattle.field.specs.Galois.{IsField, rows, modulus, width, size, product}
 use Rattle.field.specs.Polynomial.{digits, horner, clmul, times_x, reduce, mul}
-use Rattle.field.proofs.Field.{ring, zero_lt}
+use Rattle.field.proofs.Laws.{ring, zero_lt}
 use Rattle.field.proofs.Galois.{field_true, galois_field}
 use Rattle.elliptic.specs.Curve as curves
 use Rattle.elliptic.specs.Curve.{point, columns, on_curve, singular_at, singular, opposite, affine_points}

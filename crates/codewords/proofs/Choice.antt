@@ -15,7 +15,7 @@ use borrow.Author.Tests.{eqb-true, eq-eqb, ne_eqb, not-true}
 use Rattle.basics.proofs.Lists.{both_left, both_right, both_true, length_table}
 use Rattle.field.specs.Sum.{◌⊕◌}
 use Rattle.field.proofs.Sum.{⊕_cancel}
-use Rattle.field.proofs.Field.{mul_one}
+use Rattle.field.proofs.Laws.{mul_one}
 use Rattle.elliptic.specs.declared.Point.{Point}
 use Rattle.elliptic.specs.Curve.{point}
 use Rattle.elliptic.specs.Functions.{nonzero, leading}

@@ -9,7 +9,7 @@ use native.Mathlib.Decide.{ℕ_discrete}
 use lib.ListN.{length, get_or, replicate, length-replicate}
 use borrow.Author.Tests.{ne_eqb}
 use Rattle.field.specs.Field.{Arithmetic, Field}
-use Rattle.field.proofs.Field.{zero_lt}
+use Rattle.field.proofs.Laws.{zero_lt}
 use Rattle.elliptic.specs.declared.Point.{Point}
 use Rattle.elliptic.specs.Functions.{weight, nonzero, degree_from, degree}
 use Rattle.elliptic.specs.Pair.{evaluate, add_scaled}

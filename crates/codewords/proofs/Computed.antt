@@ -1,4 +1,5 @@
 -- What the operations compute is what specs/Codewords.antt defines, for every accepted code.
+use Rattle.basics.specs.Outcome.{Done}
 use Prim.Native.Nat.{ℕ, suc, ◌-◌, ◌<◌}
 use mathlib.Core.Path.{◌≡◌, refl, sym, ◌∙◌, ap, ap₂, subst}
 use mathlib.Core.Bool.{Bool, true, false, cond}
@@ -8,7 +9,6 @@ use mathlib.Core.List.Memᴰ.{of_map as map-in}
 use mathlib.Core.List.{List, [], ◌∷◌, map, Memᴰ as In}
 use native.Mathlib.Omega.{arith}
 use lib.ListN.{length, get_or, length-map}
-use Rattle.basics.specs.declared.Answer.TheVariants.{Done}
 use Rattle.basics.specs.Lists.{same, any, filter, table}
 use Rattle.basics.proofs.Lists.{length_table, get_or_table, table_as, table_get, map_table}
 use Rattle.elliptic.specs.declared.Point.{Point}

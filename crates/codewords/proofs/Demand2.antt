@@ -1,4 +1,5 @@
 -- Demand 2 holds of every accepted code.
+use Rattle.basics.specs.Outcome.{Done}
 use Prim.Native.Nat.{ℕ, ◌-◌, ◌<◌, ◌≤◌}
 use mathlib.Core.Path.{◌≡◌, refl, sym, ◌∙◌, ap, ap₂, subst}
 use mathlib.Core.Bool.{true, false}
@@ -11,7 +12,6 @@ use lib.Seq.{ext_get_or}
 use borrow.Author.Tests.{lt-ltb}
 use Rattle.basics.specs.Lists.{any, same}
 use Rattle.basics.proofs.Lists.{same_true, same_refl, eq_same, get_or_map_in}
-use Rattle.basics.specs.declared.Answer.TheVariants.{Done}
 use Rattle.elliptic.specs.declared.Point.{Point}
 use Rattle.elliptic.specs.Curve.{point}
 use Rattle.elliptic.specs.Functions.{value}

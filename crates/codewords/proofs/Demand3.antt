@@ -1,4 +1,5 @@
 -- Demand 3 holds of every accepted code.
+use Rattle.basics.specs.Outcome.{Done}
 use Prim.Native.Nat.{ℕ, ◌-◌, ◌<◌}
 use mathlib.Core.Path.{◌≡◌, refl, sym, ◌∙◌, ap, subst}
 use mathlib.Core.Bool.{Bool, true, false, cond, ◌&&◌}
@@ -9,7 +10,6 @@ use native.Mathlib.Omega.{arith}
 use lib.Dec.{eqb, ltb}
 use lib.ListN.{length, get_or}
 use borrow.Author.Tests.{eqb-true, eq-eqb, lt-ltb}
-use Rattle.basics.specs.declared.Answer.TheVariants.{Done}
 use Rattle.basics.proofs.Lists.{both_left, both_right, both_true, length_table, get_or_table, all_table}
 use Rattle.elliptic.specs.Functions.{nonzero, leading, degree}
 use Rattle.elliptic.proofs.Points.{All.nil}

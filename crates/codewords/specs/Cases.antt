@@ -1,6 +1,6 @@
 -- The known cases of document 01, marked there with a star, that speak of these definitions.
+use Rattle.basics.specs.Outcome.{Done, Refused}
 use Rattle.std.specs.Prelude.{ℕ, ◌≡◌, true, List, [], ◌∷◌}
-use Rattle.basics.specs.declared.Answer.TheVariants.{Done, Refused}
 use Rattle.basics.specs.declared.Refusal.TheVariants.{Singular}
 use Rattle.field.specs.Galois.{IsField, galois}
 use Rattle.elliptic.specs.declared.Curve.{Curve}

@@ -2,8 +2,7 @@
 use Rattle.std.specs.Prelude.{ℕ, Bool, not, ◌&&◌, List, [], ◌∷◌, eqb, ltb, leb, length}
 use Prim.{Unit, tt}
 use Rattle.basics.specs.Lists.{all, different}
-use Rattle.basics.specs.Outcome.{Outcome, accepted, check, answer}
-use Rattle.basics.specs.declared.Answer.{Answer}
+use Rattle.basics.specs.Outcome.{Answer, Outcome, accepted, check, answer}
 use Rattle.basics.specs.declared.Refusal.TheVariants.{FieldNumber, CurveCoefficient, Singular, PointCount, OffCurve, RepeatedPoint, Dimension}
 use Rattle.field.specs.Field.{Arithmetic}
 use Rattle.field.specs.Galois.{is_field, galois}

@@ -1,6 +1,8 @@
 // Each operation over chosen places beside the second coder: its answer, and where it accepts, what it writes.
+ghost use Rattle.std.specs.Prelude.{◌≤◌, length};
+
+use basics::Refusal;
 use blocks::plain::plain;
-use check::same;
 use coder::pick::pick;
 use coder::rebuild::rebuild;
 use coder::recover::recover;
@@ -9,170 +11,196 @@ use coder::systematic_function::systematic_function;
 use coder::systematic_word::systematic_word;
 use codewords::Parameters;
 use elimination::coder::solution;
-use trials::lists::{blank, fill, same_marked, scatter};
-use trials::memory::{UNWRITTEN, working};
+use elimination::equations::Added;
+use trials::lists::{same_marked, scatter};
+use trials::memory::{MOST, UNWRITTEN, WORKING};
 use trials::second::Found;
-use trials::tally::{Tally, number_of};
+use trials::tally::Tally;
 
-// The number with which Pick answers s places of the given rank.
-pub fn pick_number(s: usize, k: usize, found: Found) -> u64 {
-    if s < k {
-        return 13;
-    }
-    if found.rank < k {
-        return 12;
-    }
-    0
+// Places and their symbols, and what the second coder finds of them: the marks of the equations and what they became, the function that
+// they give, and its word.
+#[derive(Clone, Copy)]
+pub struct Trial<'a> {
+    pub code: Parameters,
+    pub xs: &'a [u8],
+    pub ys: &'a [u8],
+    pub places: &'a [u16],
+    pub symbols: &'a [u8],
+    pub found: Found,
+    pub marks: &'a [Added],
+    pub rows: &'a [u8],
+    pub function: &'a [u8],
+    pub word: &'a [u8],
+    pub ghost fits: { (length xs.now ≤ 288) × (code.k ≤ 288) },
 }
 
-// The number with which Rebuild answers them.
-pub fn rebuild_number(s: usize, k: usize, found: Found) -> u64 {
-    let n = pick_number(s, k, found);
-    if n == 0 && found.contradictions > 0 {
-        return 14;
+impl Trial<'_> {
+    // What Pick answers.
+    fn picked(&self) -> Result<(), Refusal> {
+        if self.places.len() < self.code.k {
+            return Err(Refusal::TooFew);
+        }
+        if self.found.rank < self.code.k {
+            return Err(Refusal::Dependent);
+        }
+        Ok(())
     }
-    n
+
+    // What Rebuild and Recover answer.
+    fn rebuilt(&self) -> Result<(), Refusal> {
+        self.picked()?;
+        if self.found.contradictions > 0 {
+            return Err(Refusal::NoCodeword);
+        }
+        Ok(())
+    }
+
+    // Plain of the function, beside its word.
+    fn compare_plain(&self, t: &mut Tally) {
+        let mut out = [UNWRITTEN; MOST];
+        let out = &mut out[..self.xs.len()];
+        let answer = plain(self.code, self.xs, self.ys, self.function, out);
+        t.compared(answer.is_ok() && self.word == &*out);
+    }
+
+    // Pick, beside the first k places that the equations mark as new.
+    fn compare_pick(&self, t: &mut Tally) {
+        let mut out = [0; MOST];
+        let out = &mut out[..self.code.k];
+        let expected = self.picked();
+        let answer = pick(
+            self.code,
+            self.xs,
+            self.ys,
+            self.places,
+            out,
+            &mut [0; WORKING],
+        );
+        t.compared(answer == expected);
+        if expected.is_ok() {
+            t.compared(same_marked(self.places, self.marks, out));
+        }
+    }
+
+    // Rebuild, beside the word.
+    fn compare_rebuild(&self, t: &mut Tally) {
+        let mut out = [UNWRITTEN; MOST];
+        let out = &mut out[..self.xs.len()];
+        let answer = rebuild(
+            self.code,
+            self.xs,
+            self.ys,
+            self.places,
+            self.symbols,
+            out,
+            &mut [0; WORKING],
+        );
+        compare(t, answer, self.rebuilt(), out, self.word);
+    }
+
+    // Recover of symbols at all places, beside the function.
+    fn compare_recover(&self, t: &mut Tally) {
+        let mut received = [0; MOST];
+        let received = &mut received[..self.xs.len()];
+        scatter(self.symbols, self.places, received);
+        let mut out = [UNWRITTEN; MOST];
+        let out = &mut out[..self.code.k];
+        let answer = recover(
+            self.code,
+            self.xs,
+            self.ys,
+            received,
+            out,
+            &mut [0; WORKING],
+        );
+        compare(t, answer, self.rebuilt(), out, self.function);
+    }
+
+    // Systematic function, beside the function.
+    fn compare_function(&self, t: &mut Tally) {
+        let mut out = [UNWRITTEN; MOST];
+        let out = &mut out[..self.code.k];
+        let answer = systematic_function(
+            self.code,
+            self.xs,
+            self.ys,
+            self.places,
+            self.symbols,
+            out,
+            &mut [0; WORKING],
+        );
+        compare(t, answer, self.picked(), out, self.function);
+    }
+
+    // Systematic word, beside the word.
+    fn compare_word(&self, t: &mut Tally) {
+        let mut out = [UNWRITTEN; MOST];
+        let out = &mut out[..self.xs.len()];
+        let answer = systematic_word(
+            self.code,
+            self.xs,
+            self.ys,
+            self.places,
+            self.symbols,
+            out,
+            &mut [0; WORKING],
+        );
+        compare(t, answer, self.picked(), out, self.word);
+    }
+
+    // Relation, beside the function that the equations leave if every symbol is 0.
+    fn compare_relation(&self, t: &mut Tally) {
+        let mut out = [UNWRITTEN; MOST];
+        let out = &mut out[..self.code.k];
+        let answer = relation(
+            self.code,
+            self.xs,
+            self.ys,
+            self.places,
+            out,
+            &mut [0; WORKING],
+        );
+        if self.picked() != Err(Refusal::Dependent) {
+            t.compared(answer == Err(Refusal::Independent));
+            return;
+        }
+        let mut function = [0; MOST];
+        let function = &mut function[..self.code.k];
+        let solved = solution(self.code.field, self.rows, false, function);
+        t.compared(solved.is_ok() && answer.is_ok());
+        t.compared(&*function == &*out);
+    }
+
+    // All operations that take so many places.
+    pub fn compare_all(&self, t: &mut Tally) {
+        let s = self.places.len();
+        self.compare_plain(t);
+        self.compare_rebuild(t);
+        if s == self.xs.len() {
+            self.compare_recover(t);
+        }
+        if s == self.code.k {
+            self.compare_function(t);
+            self.compare_word(t);
+            t.chosen(self.picked() == Err(Refusal::Dependent));
+        }
+        self.compare_pick(t);
+        if s == self.code.k {
+            self.compare_relation(t);
+        }
+    }
 }
 
-// Plain of a function, beside its word.
-pub fn compare_plain(
-    t: Tally,
-    code: Parameters,
-    xs: &[u8],
-    ys: &[u8],
-    function: &[u8],
-    word: &[u8],
-    out: &mut [u8],
-) -> Tally {
-    fill(out, UNWRITTEN);
-    let answer = plain(code, xs, ys, function, out);
-    t.compared(number_of(answer) == 0 && same(word, out))
-}
-
-// Pick, beside the first k places that the equations mark as new.
-pub fn compare_pick(
-    t: Tally,
-    code: Parameters,
-    xs: &[u8],
-    ys: &[u8],
-    places: &[u16],
-    marks: &[u8],
-    number: u64,
-    out: &mut [u16],
-) -> Tally {
-    blank(out);
-    let answer = pick(code, xs, ys, places, out, &mut working());
-    let u = t.compared(number_of(answer) == number);
-    if number != 0 {
-        return u;
+// An answer, and where it is Ok, what is written.
+fn compare(
+    t: &mut Tally,
+    answer: Result<(), Refusal>,
+    expected: Result<(), Refusal>,
+    out: &[u8],
+    right: &[u8],
+) {
+    t.compared(answer == expected);
+    if expected.is_ok() {
+        t.compared(out == right);
     }
-    u.compared(same_marked(places, marks, out))
-}
-
-// Rebuild, beside the word of the solution.
-pub fn compare_rebuild(
-    t: Tally,
-    code: Parameters,
-    xs: &[u8],
-    ys: &[u8],
-    places: &[u16],
-    symbols: &[u8],
-    number: u64,
-    word: &[u8],
-    out: &mut [u8],
-) -> Tally {
-    fill(out, UNWRITTEN);
-    let answer = rebuild(code, xs, ys, places, symbols, out, &mut working());
-    let u = t.compared(number_of(answer) == number);
-    if number != 0 {
-        return u;
-    }
-    u.compared(same(word, out))
-}
-
-// Recover of symbols at all places, beside the solution.
-pub fn compare_recover(
-    t: Tally,
-    code: Parameters,
-    xs: &[u8],
-    ys: &[u8],
-    places: &[u16],
-    symbols: &[u8],
-    number: u64,
-    function: &[u8],
-    out: &mut [u8],
-    received: &mut [u8],
-) -> Tally {
-    fill(out, UNWRITTEN);
-    scatter(symbols, places, received);
-    let answer = recover(code, xs, ys, received, out, &mut working());
-    let u = t.compared(number_of(answer) == number);
-    if number != 0 {
-        return u;
-    }
-    u.compared(same(function, out))
-}
-
-// Systematic function, beside the solution.
-pub fn compare_function(
-    t: Tally,
-    code: Parameters,
-    xs: &[u8],
-    ys: &[u8],
-    places: &[u16],
-    symbols: &[u8],
-    number: u64,
-    function: &[u8],
-    out: &mut [u8],
-) -> Tally {
-    fill(out, UNWRITTEN);
-    let answer = systematic_function(code, xs, ys, places, symbols, out, &mut working());
-    let u = t.compared(number_of(answer) == number);
-    if number != 0 {
-        return u;
-    }
-    u.compared(same(function, out))
-}
-
-// Systematic word, beside its word.
-pub fn compare_word(
-    t: Tally,
-    code: Parameters,
-    xs: &[u8],
-    ys: &[u8],
-    places: &[u16],
-    symbols: &[u8],
-    number: u64,
-    word: &[u8],
-    out: &mut [u8],
-) -> Tally {
-    fill(out, UNWRITTEN);
-    let answer = systematic_word(code, xs, ys, places, symbols, out, &mut working());
-    let u = t.compared(number_of(answer) == number);
-    if number != 0 {
-        return u;
-    }
-    u.compared(same(word, out))
-}
-
-// Relation, beside the function that the equations leave if every symbol is 0; `dependent` says which answer is expected.
-pub fn compare_relation(
-    t: Tally,
-    code: Parameters,
-    xs: &[u8],
-    ys: &[u8],
-    places: &[u16],
-    dependent: bool,
-    rows: &[u8],
-    function: &mut [u8],
-    out: &mut [u8],
-) -> Tally {
-    fill(out, UNWRITTEN);
-    let answer = relation(code, xs, ys, places, out, &mut working());
-    if !dependent {
-        return t.compared(number_of(answer) == 15);
-    }
-    let solved = solution(code.field, rows, false, function);
-    let u = t.compared(solved && number_of(answer) == 0);
-    u.compared(same(function, out))
 }

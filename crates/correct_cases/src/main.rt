@@ -8,11 +8,18 @@ mod search;
 mod small_codes;
 mod words;
 
+use basics::Refusal;
+use trials::tally::finish;
+
+fn groups() -> Result<(), Refusal> {
+    small_codes::every_word()?;
+    small_codes::all_a()?;
+    small_codes::all_b()?;
+    random_codes::fields()?;
+    random_codes::large()?;
+    eighty::eighty()
+}
+
 fn main() {
-    small_codes::every_word();
-    small_codes::all_a();
-    small_codes::all_b();
-    random_codes::fields();
-    random_codes::large();
-    eighty::eighty();
+    finish(groups());
 }

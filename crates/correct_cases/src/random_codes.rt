@@ -1,64 +1,46 @@
 // Random codes over each field: two words of each, beside plain search where there are few codewords.
-ghost use Rattle.std.specs.Prelude.{◌≤◌, length};
-
 use crate::words::try_word;
-use codewords::Parameters;
+use basics::Refusal;
 use trials::codes::draw_code;
-use trials::memory::symbols;
-use trials::tally::{Tally, close, nothing, show, write};
+use trials::memory::{MOST, SEED};
+use trials::tally::{Tally, close, show, write};
 
-fn try_code(t: Tally, state: &mut u64, code: Parameters, xs: &[u8], ys: &[u8]) -> Tally
-    requires { (length xs.now ≤ 288) × (code.k ≤ 288) }
-{
-    let u = try_word(t.coded(), state, code, xs, ys, 1024);
-    try_word(u, state, code, xs, ys, 1024)
-}
-
-// A code of at most `most` points, if one is drawn.
-fn try_drawn(t: Tally, state: &mut u64, m: u8, most: usize) -> Tally {
-    let mut xs = symbols();
-    let mut ys = symbols();
-    let drawn = draw_code(state, m, most, &mut xs, &mut ys);
-    let n = drawn.n;
-    if n < 2 {
-        return t;
+// Of so many curves over field m, and at most `most` points of each.
+fn line(m: u8, curves: u32, most: usize) -> Result<(), Refusal> {
+    let mut state = SEED;
+    let mut t = Tally::default();
+    for _ in 0..curves {
+        if let Some(drawn) = draw_code(&mut state, m, most) {
+            let n = drawn.n;
+            let xs = &drawn.xs[..n];
+            let ys = &drawn.ys[..n];
+            t.coded();
+            try_word(&mut t, &mut state, drawn.code, xs, ys, 1024)?;
+            try_word(&mut t, &mut state, drawn.code, xs, ys, 1024)?;
+        }
     }
-    try_code(t, state, drawn.code, &xs[..n], &ys[..n])
-}
-
-fn try_curves(m: u8, curves: u32, most: usize) -> Tally {
-    let mut state: u64 = 88172645463325252;
-    let mut t = nothing();
-    let mut i = 0;
-    while i < curves {
-        t = try_drawn(t, &mut state, m, most);
-        i += 1;
-    }
-    t
-}
-
-fn line(m: u8, t: Tally) {
-    show(b"random codes, field ", m as u64);
+    show(b"random codes, field ", u64::from(m));
     show(b", Correct: ", t.codes);
     show(b" codes, ", t.choices);
     show(b" words, ", t.dependent);
     write(b" too far");
     close(t);
+    Ok(())
 }
 
-pub fn fields() {
-    line(2, try_curves(2, 600, 288));
-    line(3, try_curves(3, 600, 288));
-    line(4, try_curves(4, 600, 288));
-    line(5, try_curves(5, 600, 288));
-    line(6, try_curves(6, 600, 48));
-    line(7, try_curves(7, 600, 48));
-    line(8, try_curves(8, 600, 48));
-    line(9, try_curves(9, 600, 48));
+pub fn fields() -> Result<(), Refusal> {
+    for m in 2..=5 {
+        line(m, 600, MOST)?;
+    }
+    for m in 6..=9 {
+        line(m, 600, 48)?;
+    }
+    Ok(())
 }
 
-pub fn large() {
-    line(7, try_curves(7, 30, 288));
-    line(8, try_curves(8, 30, 288));
-    line(9, try_curves(9, 30, 288));
+pub fn large() -> Result<(), Refusal> {
+    for m in 7..=9 {
+        line(m, 30, MOST)?;
+    }
+    Ok(())
 }

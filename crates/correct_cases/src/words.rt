@@ -1,190 +1,110 @@
 // A word in Correct, beside what is expected of it.
 ghost use Rattle.std.specs.Prelude.{◌≤◌, ◌<◌, length};
 
-use crate::search::{Near, codewords, copy, differ, radius, search};
-use check::same;
+use crate::search::{Near, codewords, differ, radius, search};
+use basics::Refusal;
 use codewords::Parameters;
 use correction::operation::correct;
+use elimination::coder::word;
 use trials::choose::elements;
-use trials::lists::{count, draw, fill};
-use trials::memory::{UNWRITTEN, symbols, working};
+use trials::lists::draw;
+use trials::memory::{MOST, UNWRITTEN, WORKING};
 use trials::random::{below, symbol};
-use trials::tally::{Tally, count_of, number_of};
+use trials::tally::Tally;
 
-// The answer and what is written: 21 and nothing if no codeword lies within t, else the one and its distance.
+// The answer and what is written: nothing if no codeword lies within t, else the one and its distance.
 fn compare(
-    t: Tally,
+    t: &mut Tally,
     code: Parameters,
     xs: &[u8],
     ys: &[u8],
     received: &[u8],
     found: Near,
     nearest: &[u8],
-    out: &mut [u8],
-) -> Tally {
-    fill(out, UNWRITTEN);
-    let answer = correct(code, xs, ys, received, out, &mut working());
-    let u = t.chosen(found.count == 0).compared(found.count <= 1);
+)
+    requires { length xs.now ≤ 288 }
+{
+    let mut out = [UNWRITTEN; MOST];
+    let out = &mut out[..xs.len()];
+    let answer = correct(code, xs, ys, received, out, &mut [0; WORKING]);
+    t.chosen(found.count == 0);
+    t.compared(found.count <= 1);
     if found.count == 0 {
-        return u.compared(number_of(answer) == 21 && count(out, UNWRITTEN) == out.len());
+        t.compared(answer == Err(Refusal::TooFar) && out.iter().all(|x| *x == UNWRITTEN));
+    } else {
+        t.compared(answer == Ok(found.distance) && nearest == &*out);
     }
-    let right = number_of(answer) == 99 && count_of(answer) as u64 == found.distance;
-    u.compared(right && same(nearest, out))
 }
 
-// A word with one symbol drawn anew, and with several.
-fn spoil(state: &mut u64, q: usize, word: &mut [u8])
+// A word with so many symbols drawn anew, some of them perhaps more than once.
+fn spoil(state: &mut u64, q: usize, many: usize, word: &mut [u8])
     requires { 0 < q }
 {
     let n = word.len();
     if n == 0 {
         return;
     }
-    let i = below(state, n);
-    let v = symbol(state, q);
-    word[i] = v;
-}
-
-fn spoil_many(state: &mut u64, q: usize, many: usize, word: &mut [u8])
-    requires { 0 < q }
-{
-    let mut i = 0;
-    while i < many {
-        spoil(state, q, word);
-        i += 1;
+    for _ in 0..many {
+        let i = below(state, n);
+        word[i] = symbol(state, q);
     }
-}
-
-// A random codeword.
-fn draw_word(
-    state: &mut u64,
-    code: Parameters,
-    xs: &[u8],
-    ys: &[u8],
-    function: &mut [u8],
-    word: &mut [u8],
-) {
-    draw(state, elements(code.field), function);
-    elimination::coder::word(code.field, xs, ys, function, word);
 }
 
 // A word beside plain search.
 pub fn try_searched(
-    t: Tally,
+    t: &mut Tally,
     code: Parameters,
     xs: &[u8],
     ys: &[u8],
     received: &[u8],
     words: usize,
-    function: &mut [u8],
-    word: &mut [u8],
-    nearest: &mut [u8],
-) -> Tally
-    requires { length xs.now ≤ 288 }
-{
-    let within = radius(xs.len(), code.k) as u64;
-    let found = search(
-        code, xs, ys, received, within, words, function, word, nearest,
-    );
-    compare(t, code, xs, ys, received, found, nearest, word)
-}
-
-// A codeword with some symbols changed, of which plain search finds what is nearest.
-fn try_near(
-    t: Tally,
-    state: &mut u64,
-    code: Parameters,
-    xs: &[u8],
-    ys: &[u8],
-    words: usize,
-    function: &mut [u8],
-    word: &mut [u8],
-    received: &mut [u8],
-    nearest: &mut [u8],
-) -> Tally
-    requires { length xs.now ≤ 288 }
-{
-    let changes = below(state, radius(xs.len(), code.k) + 3);
-    draw_word(state, code, xs, ys, function, received);
-    spoil_many(state, elements(code.field), changes, received);
-    try_searched(t, code, xs, ys, received, words, function, word, nearest)
-}
-
-// A codeword with at most t symbols changed: it comes back.
-fn try_changed(
-    t: Tally,
-    state: &mut u64,
-    code: Parameters,
-    xs: &[u8],
-    ys: &[u8],
-    function: &mut [u8],
-    word: &mut [u8],
-    received: &mut [u8],
-    nearest: &mut [u8],
-) -> Tally
-    requires { length xs.now ≤ 288 }
-{
-    let changes = below(state, radius(xs.len(), code.k) + 1);
-    draw_word(state, code, xs, ys, function, nearest);
-    copy(nearest, received);
-    spoil_many(state, elements(code.field), changes, received);
-    let found = Near {
-        count: 1,
-        distance: differ(nearest, received),
-    };
-    compare(t, code, xs, ys, received, found, nearest, word)
-}
-
-fn try_lent(
-    t: Tally,
-    state: &mut u64,
-    code: Parameters,
-    xs: &[u8],
-    ys: &[u8],
-    most: usize,
-    function: &mut [u8],
-    word: &mut [u8],
-    received: &mut [u8],
-    nearest: &mut [u8],
-) -> Tally
-    requires { (length xs.now ≤ 288) × (1 ≤ most) × (most ≤ 65536) }
-{
-    let words = codewords(elements(code.field), code.k, most);
-    if words == 0 {
-        return try_changed(t, state, code, xs, ys, function, word, received, nearest);
-    }
-    try_near(
-        t, state, code, xs, ys, words, function, word, received, nearest,
-    )
-}
-
-// A word, with lists of its own; plain search goes over at most so many codewords.
-pub fn try_word(
-    t: Tally,
-    state: &mut u64,
-    code: Parameters,
-    xs: &[u8],
-    ys: &[u8],
-    most: usize,
-) -> Tally
-    requires { (length xs.now ≤ 288) × (code.k ≤ 288) × (1 ≤ most) × (most ≤ 65536) }
+) -> Result<(), Refusal>
+    requires { (length xs.now ≤ 288) × (code.k ≤ 288) }
 {
     let n = xs.len();
-    let k = code.k;
-    let mut function = symbols();
-    let mut word = symbols();
-    let mut received = symbols();
-    let mut nearest = symbols();
-    try_lent(
-        t,
-        state,
-        code,
-        xs,
-        ys,
-        most,
-        &mut function[..k],
-        &mut word[..n],
-        &mut received[..n],
-        &mut nearest[..n],
-    )
+    let mut nearest = [0; MOST];
+    let nearest = &mut nearest[..n];
+    let found = search(code, xs, ys, received, radius(n, code.k), words, nearest)?;
+    compare(t, code, xs, ys, received, found, nearest);
+    Ok(())
+}
+
+// A codeword with some symbols changed: with up to t + 2 of them beside plain search, or where there are more than `most` codewords, with up to t of
+// them, and it comes back.
+pub fn try_word(
+    t: &mut Tally,
+    state: &mut u64,
+    code: Parameters,
+    xs: &[u8],
+    ys: &[u8],
+    most: usize,
+) -> Result<(), Refusal>
+    requires { (length xs.now ≤ 288) × (code.k ≤ 288) }
+{
+    let n = xs.len();
+    let q = elements(code.field);
+    let within = radius(n, code.k);
+    let words = codewords(q, code.k, most);
+    let more = if words.is_some() { 3 } else { 1 };
+    let changes = below(state, within + more);
+    let mut function = [0; MOST];
+    let mut sent = [0; MOST];
+    let function = &mut function[..code.k];
+    draw(state, q, function);
+    word(code.field, xs, ys, function, &mut sent[..n])?;
+    let mut received = sent;
+    spoil(state, q, changes, &mut received[..n]);
+    let received = &received[..n];
+    let sent = &sent[..n];
+    match words {
+        Some(words) => try_searched(t, code, xs, ys, received, words)?,
+        None => {
+            let found = Near {
+                count: 1,
+                distance: differ(sent, received),
+            };
+            compare(t, code, xs, ys, received, found, sent);
+        }
+    }
+    Ok(())
 }

@@ -1,4 +1,5 @@
 -- The values of the error locator at all points are not zero at exactly the places that the definition keeps, and an accepted code is small enough for its rows.
+use Rattle.basics.specs.Outcome.{Done}
 use Prim.Native.Nat.{ℕ, zero, suc, ◌+◌, ◌-◌, ◌<◌, ◌≤◌}
 use mathlib.Core.Path.{◌≡◌, refl, sym, ◌∙◌, ap, ap₂}
 use mathlib.Core.Bool.{true, not}
@@ -7,7 +8,6 @@ use native.Mathlib.Omega.{arith}
 use lib.Dec.{eqb, ltb}
 use lib.ListN.{length, get_or}
 use borrow.Author.Tests.{ltb-true}
-use Rattle.basics.specs.declared.Answer.TheVariants.{Done}
 use Rattle.basics.specs.Lists.{filter, table}
 use Rattle.basics.proofs.Lists.{all_get, length_table, get_or_table}
 use Rattle.elliptic.specs.Functions.{weight}

@@ -15,8 +15,8 @@ use Rattle.codewords.specs.Codewords.{place, symbol_at}
 use Rattle.engine.specs.declared.pair.Sizes.{Sizes}
 use Rattle.engine.specs.Places.{point_of}
 use Rattle.engine.proofs.Runs.{after_more}
-use Rattle.values.specs.Values.{WordSteps, Fits, one}
-use Rattle.values.proofs.Runs.{begins, begins_word, begun_size, fits}
+use Rattle.values.specs.Values.{WordSteps, one}
+use Rattle.values.proofs.Runs.{begins, begins_word, begun_size}
 use Rattle.correction.specs.Kept.{kept_before, kept_in, symbols_at, NextKept}
 use Rattle.correction.specs.Runs.{RunsKept, RanKept, TwoLeft, kept_state, kept_index, last_kept}
 use Rattle.correction.proofs.Counting.{none_kept, next_index}
@@ -43,15 +43,9 @@ module _ {m : ℕ} {xs ys r e : List ℕ} {count : ℕ} (g : RunsKept m xs ys r 
       }
 
   module _ {i behind : ℕ} {l u f : List ℕ} {n : Sizes} (h : i < count) (s : RanKept m xs ys r e i l u f n behind) where
-    pub ran_fits : Fits xs l u n
-    ran_fits = fits s.first_size s.second_size (g.runs.small i h) s.pair
-
     module _ {j : ℕ} (next : NextKept e behind j) where
       found : (j < length e) × (j ≡ kept_index e i) × (length (kept_before e (j + 1)) ≡ i + 1)
       found = next_index next s.passed (omega (arith, g.runs.within.enough))
-
-      pub next_inside : j < length xs
-      next_inside = omega (arith, found.0, g.kept_size)
 
       -- one more kept place
       pub ran_more : {a b w : List ℕ} {k : Sizes} → WordSteps m xs j 0 (get_or r j 0) (cond n.turned u l) (cond n.turned l u) f n.low n.high a b w k

@@ -1,6 +1,6 @@
 -- The places that are kept, by a list that is not zero there.
+use Rattle.basics.specs.Outcome.{Done}
 use Rattle.std.specs.Prelude.{ℕ, suc, ◌-◌, ◌<◌, ◌≤◌, ◌≡◌, Bool, true, not, List, map, eqb, length, get_or}
-use Rattle.basics.specs.declared.Answer.TheVariants.{Done}
 use Rattle.basics.specs.Lists.{filter, table}
 use Rattle.codewords.specs.Code.{Code, code_answer, n}
 use Rattle.codewords.specs.Codewords.{place, symbol_at, symbols}

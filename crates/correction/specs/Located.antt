@@ -1,6 +1,6 @@
 -- What is in hand between the stages of Correct.
+use Rattle.basics.specs.Outcome.{Done}
 use Rattle.std.specs.Prelude.{ℕ, ◌-◌, ◌/◌, ◌≡◌, true, List, length}
-use Rattle.basics.specs.declared.Answer.TheVariants.{Done}
 use Rattle.codewords.specs.Code.{Code, code_answer, n}
 use Rattle.codewords.specs.Codewords.{symbols}
 use Rattle.decoding.specs.Rows.{top, kept_places}

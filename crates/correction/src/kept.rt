@@ -20,10 +20,8 @@ pub fn count(e: &[u8]) -> usize
     ensures { result ≡ length (kept_in e.now) }
 {
     let mut c = 0;
-    let mut i = 0;
-    while i < e.len() {
-        c = more(c, e[i]);
-        i += 1;
+    for x in e {
+        c = more(c, *x);
     }
     c
 }
@@ -33,14 +31,12 @@ pub fn next(e: &[u8], j: usize) -> usize
     requires { j ≤ length e.now }
     ensures { NextKept e.now j result }
 {
-    let mut i = j;
-    while i < e.len() {
+    for i in j..e.len() {
         if e[i] != 0 {
             return i;
         }
-        i += 1;
     }
-    i
+    e.len()
 }
 
 // The number of places where two words differ.
@@ -49,10 +45,8 @@ pub fn distance(w: &[u8], r: &[u8]) -> usize
     ensures { result ≡ distance w.now r.now }
 {
     let mut d = 0;
-    let mut i = 0;
-    while i < w.len() {
+    for i in 0..w.len() {
         d = more(d, w[i] ^ r[i]);
-        i += 1;
     }
     d
 }

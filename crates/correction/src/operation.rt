@@ -1,50 +1,38 @@
 // Correct: the codeword within t of the symbols, and how many places it changes.
+ghost use Rattle.codewords.specs.Code.{code_of};
 ghost use Rattle.std.specs.Prelude.{◌≡◌};
-ghost use Rattle.basics.specs.Outcome.{Meets};
-ghost use Rattle.basics.specs.declared.Answer.TheVariants.{Done};
-ghost use Rattle.field.specs.Tables.{Tables};
-ghost use Rattle.codewords.specs.Code.{code_of, code_answer};
+ghost use Rattle.basics.specs.Outcome.{Meets, count_of};
+ghost use Rattle.code.specs.Shown.{shown};
 ghost use Rattle.codewords.specs.Codewords.{symbols};
 ghost use Rattle.correction.specs.Outcomes.{correct_outcome};
 ghost use Rattle.correction.specs.Stages.{correct_tested};
 
 use crate::run::correct_run;
-use basics::{Answer, Refusal};
+use basics::Refusal;
+use code::accepted::Code;
 use code::lists::all_below;
-use code::test::test_code_with;
 use codewords::Parameters;
-use field::{is_field, logarithms, powers, size};
+use field::Field;
 use solving::work::ROOM;
 
 // Correct of a code that passed the code test.
-fn correct_tested(
-    p: Parameters,
-    powers: &[u8; 1021],
-    logs: &[u16; 512],
-    xs: &[u8],
-    ys: &[u8],
-    r: &[u8],
-    out: &mut [u8],
-    work: &mut [u8],
-) -> Answer
-    requires tables { Tables p.field powers.now logs.now }
-    requires ys_value { code_answer (code_of p xs.now ys.now) ≡ Done }
-    ensures { Meets (correct_tested (code_of p xs.now ys.now) r.now out.old work.old) result
+fn correct_tested(code: &Code, r: &[u8], out: &mut [u8], work: &mut [u8]) -> Result<usize, Refusal>
+    ensures { Meets (correct_tested (shown code.now) r.now out.old work.old) (count_of result)
         (out.old, work.old) (out.new, work.new) }
 {
-    if r.len() != xs.len() {
-        return Answer::Refused(Refusal::Length);
+    if r.len() != code.xs.len() {
+        return Err(Refusal::Length);
     }
-    if out.len() != xs.len() {
-        return Answer::Refused(Refusal::Length);
+    if out.len() != code.xs.len() {
+        return Err(Refusal::Length);
     }
     if work.len() < ROOM {
-        return Answer::Refused(Refusal::Length);
+        return Err(Refusal::Length);
     }
-    if !all_below(size(p.field), r) {
-        return Answer::Refused(Refusal::Symbol);
+    if !all_below(code.field.size(), r) {
+        return Err(Refusal::Symbol);
     }
-    correct_run(p, powers, logs, xs, ys, r, out, work)
+    correct_run(code, r, out, work)
 }
 
 // The n symbols of the codeword within t, with the count of places where it differs from r.
@@ -55,19 +43,11 @@ pub fn correct(
     r: &[u8],
     out: &mut [u8],
     work: &mut [u8],
-) -> Answer
-    ensures { Meets (correct_outcome (code_of code xs.now ys.now) r.now out.old work.old) result
+) -> Result<usize, Refusal>
+    ensures { Meets (correct_outcome (code_of code xs.now ys.now) r.now out.old work.old) (count_of result)
         (out.old, work.old) (out.new, work.new) }
 {
-    let m = code.field;
-    if !is_field(m) {
-        return Answer::Refused(Refusal::FieldNumber);
-    }
-    let powers = powers(m);
-    let logs = logarithms(m);
-    let tested = test_code_with(code, &powers, &logs, xs, ys);
-    if let Answer::Done = tested {
-        return correct_tested(code, &powers, &logs, xs, ys, r, out, work);
-    }
-    tested
+    let field = Field::new(code.field)?;
+    let accepted = Code::new(&field, code.curve, code.k, xs, ys)?;
+    correct_tested(&accepted, r, out, work)
 }

@@ -1,9 +1,7 @@
 // From symbols that passed their tests to the codeword within t, or to the refusal: the error locator, the places that it keeps, and the word that they decide.
 ghost use Rattle.std.specs.Prelude.{◌≡◌, true, ◌+◌, ◌-◌, ◌/◌, ◌<◌, ◌≤◌, length};
-ghost use Rattle.basics.specs.Outcome.{Meets};
-ghost use Rattle.basics.specs.declared.Answer.TheVariants.{Done};
-ghost use Rattle.field.specs.Tables.{Tables};
-ghost use Rattle.codewords.specs.Code.{code_of, code_answer};
+ghost use Rattle.basics.specs.Outcome.{Meets, count_of};
+ghost use Rattle.code.specs.Shown.{shown};
 ghost use Rattle.codewords.specs.Codewords.{symbols};
 ghost use Rattle.decoding.specs.Near.{radius};
 ghost use Rattle.decoding.specs.Rows.{span};
@@ -14,8 +12,8 @@ ghost use Rattle.correction.specs.Stages.{correct_run};
 
 use crate::kept::{count, distance};
 use crate::solve::solve_kept;
-use basics::{Answer, Refusal};
-use codewords::Parameters;
+use basics::Refusal;
+use code::accepted::Code;
 use engine::slices::copy;
 use locator::locate::locate;
 use locator::turn::{HEAD, Layout};
@@ -55,11 +53,7 @@ fn layout(n: usize, k: usize) -> Layout
 
 // From the values of the error locator on. Arrays are lent for the pair and the word.
 fn correct_kept(
-    p: Parameters,
-    powers: &[u8; 1021],
-    logs: &[u16; 512],
-    xs: &[u8],
-    ys: &[u8],
+    code: &Code,
     r: &[u8],
     t: usize,
     e: &[u8],
@@ -68,34 +62,29 @@ fn correct_kept(
     f: &mut [u8],
     out: &mut [u8],
     work: &mut [u8],
-) -> Answer
-    requires tables { Tables p.field powers.now logs.now }
-    requires located { Located (code_of p xs.now ys.now) r.now e.now × (t ≡ radius (code_of p xs.now ys.now)) }
-    requires l_len { (length l.old ≡ length xs.now) × (length u.old ≡ length xs.now) × (length f.old ≡ length xs.now) × (length out.old ≡ length xs.now) × (room ≤ length work.old) }
-    ensures { Meets (correct_run (code_of p xs.now ys.now) r.now work.old) result
+) -> Result<usize, Refusal>
+    requires located { Located (shown code.now) r.now e.now × (t ≡ radius (shown code.now)) }
+    requires l_len { (length l.old ≡ length code.now.xs.now) × (length u.old ≡ length code.now.xs.now) × (length f.old ≡ length code.now.xs.now) × (length out.old ≡ length code.now.xs.now) × (room ≤ length work.old) }
+    ensures { Meets (correct_run (shown code.now) r.now work.old) (count_of result)
         (out.old, work.old) (out.new, work.new) }
 {
     let kept = count(e);
-    if kept <= p.k {
-        return Answer::Refused(Refusal::TooFar);
+    if kept <= code.k {
+        return Err(Refusal::TooFar);
     }
-    solve_kept(p, powers, logs, xs, ys, r, e, l, u, f);
+    solve_kept(code, r, e, l, u, f);
     let changed = distance(f, r);
     if t < changed {
-        return Answer::Refused(Refusal::TooFar);
+        return Err(Refusal::TooFar);
     }
-    copy(f, xs.len(), out);
+    copy(f, code.xs.len(), out);
     clear_room(work);
-    Answer::Counted(changed)
+    Ok(changed)
 }
 
 // The error locator, and all that follows. Arrays are lent for the rows, and then for its values, the pair and the word.
 fn correct_in(
-    p: Parameters,
-    powers: &[u8; 1021],
-    logs: &[u16; 512],
-    xs: &[u8],
-    ys: &[u8],
+    code: &Code,
     r: &[u8],
     a: &mut [u8],
     b: &mut [u8],
@@ -103,23 +92,17 @@ fn correct_in(
     d: &mut [u8],
     out: &mut [u8],
     work: &mut [u8],
-) -> Answer
-    requires tables { Tables p.field powers.now logs.now }
-    requires ys_value { code_answer (code_of p xs.now ys.now) ≡ Done }
-    requires r_len { (length r.now ≡ length xs.now) × (length out.old ≡ length xs.now) × (room ≤ length work.old) × (symbols (code_of p xs.now ys.now) r.now ≡ true) }
-    requires four_long { FourLong (length xs.now) a.old b.old c.old d.old }
-    ensures { Meets (correct_run (code_of p xs.now ys.now) r.now work.old) result
+) -> Result<usize, Refusal>
+    requires r_len { (length r.now ≡ length code.now.xs.now) × (length out.old ≡ length code.now.xs.now) × (room ≤ length work.old) × (symbols (shown code.now) r.now ≡ true) }
+    requires four_long { FourLong (length code.now.xs.now) a.old b.old c.old d.old }
+    ensures { Meets (correct_run (shown code.now) r.now work.old) (count_of result)
         (out.old, work.old) (out.new, work.new) }
 {
-    let n = xs.len();
-    let shape = layout(n, p.k);
-    locate(p.field, powers, logs, shape, xs, ys, r, a, b, c, d);
+    let n = code.xs.len();
+    let shape = layout(n, code.k);
+    locate(code.field, shape, code.xs, code.ys, r, a, b, c, d);
     correct_kept(
-        p,
-        powers,
-        logs,
-        xs,
-        ys,
+        code,
         r,
         shape.t,
         &a[..n],
@@ -132,33 +115,18 @@ fn correct_in(
 }
 
 // The same with arrays of its own: 1,448 bytes.
-pub fn correct_run(
-    p: Parameters,
-    powers: &[u8; 1021],
-    logs: &[u16; 512],
-    xs: &[u8],
-    ys: &[u8],
-    r: &[u8],
-    out: &mut [u8],
-    work: &mut [u8],
-) -> Answer
-    requires tables { Tables p.field powers.now logs.now }
-    requires ys_value { code_answer (code_of p xs.now ys.now) ≡ Done }
-    requires r_len { (length r.now ≡ length xs.now) × (length out.old ≡ length xs.now) × (room ≤ length work.old) × (symbols (code_of p xs.now ys.now) r.now ≡ true) }
-    ensures { Meets (correct_run (code_of p xs.now ys.now) r.now work.old) result
+pub fn correct_run(code: &Code, r: &[u8], out: &mut [u8], work: &mut [u8]) -> Result<usize, Refusal>
+    requires r_len { (length r.now ≡ length code.now.xs.now) × (length out.old ≡ length code.now.xs.now) × (room ≤ length work.old) × (symbols (shown code.now) r.now ≡ true) }
+    ensures { Meets (correct_run (shown code.now) r.now work.old) (count_of result)
         (out.old, work.old) (out.new, work.new) }
 {
-    let size = HEAD + xs.len();
+    let size = HEAD + code.xs.len();
     let mut a = [0u8; 362];
     let mut b = [0u8; 362];
     let mut c = [0u8; 362];
     let mut d = [0u8; 362];
     correct_in(
-        p,
-        powers,
-        logs,
-        xs,
-        ys,
+        code,
         r,
         &mut a[..size],
         &mut b[..size],

@@ -9,7 +9,7 @@ use Rattle.basics.proofs.Lists.{filter_append}
 use Rattle.field.specs.Sum.{◌⊕◌}
 use Rattle.field.specs.Field.{Arithmetic, Field}
 use Rattle.field.specs.Galois.{IsField, product, galois}
-use Rattle.field.proofs.Field.{ring}
+use Rattle.field.proofs.Laws.{ring}
 use Rattle.field.proofs.Galois.{galois_field}
 use Rattle.elliptic.specs.declared.Curve.{Curve}
 use Rattle.elliptic.specs.declared.Point.{Point}

@@ -1,15 +1,14 @@
 -- Listing points one after the other in two buffers, as long as there is room.
 use Prim.Native.Nat.{ℕ, ◌+◌, ◌<◌, ◌≤◌}
 use mathlib.Core.Bool.{Bool, true, false}
-use mathlib.Core.Path.{◌≡◌, refl, sym, ap, ◌∙◌}
+use mathlib.Core.Path.{◌≡◌, sym, ap, ◌∙◌}
 use mathlib.Core.List.{List, [], ◌∷◌, ◌++◌, append_assoc, append-nil, map, map-append}
 use native.Mathlib.Numerals.{add-one}
 use native.Mathlib.Omega.{arith}
 use lib.ListN.{length, take, set, length-append, length-take, length-map}
 use lib.Seq.{take_all, take-append-le}
 use Rattle.basics.specs.Lists.{filter, table, written}
-use Rattle.basics.specs.Outcome.{Meets}
-use Rattle.basics.specs.declared.Answer.TheVariants.{Counted}
+use Rattle.basics.specs.Outcome.{Counted, Meets}
 use Rattle.basics.proofs.Lists.{filter_append}
 use Rattle.basics.proofs.Loops.{written_more, filter_table_more, filter_table_less}
 use Rattle.basics.proofs.Outcomes.{count_pair}
@@ -27,9 +26,6 @@ module _ (f : Point → ℕ) (k : ℕ) (points : List Point) where
       let more = take_all k (points ++ (P ∷ [])) (rw (length-append points (P ∷ [])) (omega arith)) in
       let n-is : n ≡ length (map f points) = count ∙ ap length all ∙ sym (length-map points f) in
       rw (e, more, all, n-is, map-append f points (P ∷ [])) (written_more (map f points) old (f P) (rw (length-map points f, size) few))
-
-pub listed_none : (xs ys : List ℕ) → Listed [] xs ys xs ys 0
-listed_none xs ys = record { in_xs = refl; in_ys = refl; number = refl }
 
 module _ {points : List Point} {xs₀ ys₀ xs ys : List ℕ} {n : ℕ} (l : Listed points xs₀ ys₀ xs ys n) where
   pub listed_one : (P : Point) → Rooms xs₀ ys₀ → n < room → Listed (points ++ (P ∷ [])) xs₀ ys₀ (set xs n P.x) (set ys n P.y) (n + 1)

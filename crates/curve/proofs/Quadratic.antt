@@ -1,10 +1,9 @@
 -- Y² + t·Y = v, where t is not 0: Y is t·z with z² + z = v/t², and with z so does z + 1. So a table of such z finds both Y over an X, or that there is none.
 use Prim.Native.Nat.{ℕ, ◌+◌, ◌<◌}
 use mathlib.Core.Bool.{Bool, true, false}
-use mathlib.Core.Path.{◌≡◌, refl, sym, ap, ◌∙◌}
+use mathlib.Core.Path.{◌≡◌, sym, ap, ◌∙◌}
 use mathlib.Core.List.{List, [], ◌∷◌, ◌++◌}
 use native.Mathlib.Decide.{ℕ_discrete, dec_lt}
-use native.Mathlib.Nat.{not-suc-le-zero}
 use native.Mathlib.Omega.{arith}
 use borrow.Author.Tests.{eq-eqb, ne_eqb, lt-ltb, le-ltb}
 use lib.ListN.{get_or, set, replicate, length-replicate, length-set}
@@ -16,7 +15,7 @@ use Rattle.field.specs.Sum.{◌⊕◌}
 use Rattle.field.specs.Field.{Arithmetic, Field}
 use Rattle.field.specs.Galois.{IsField, size, product, inverse, galois}
 use Rattle.field.proofs.Sum.{⊕_assoc, ⊕_eq, ⊕_self, ⊕_zero, ⊕_cancel}
-use Rattle.field.proofs.Field.{ring, mul_one, no_zero_div, zero_·}
+use Rattle.field.proofs.Laws.{ring, mul_one, no_zero_div, zero_·}
 use Rattle.field.proofs.Galois.{galois_field}
 use Rattle.elliptic.specs.declared.Curve.{Curve}
 use Rattle.elliptic.specs.Curve.{point, right, coefficients_below}
@@ -33,30 +32,6 @@ module _ (f : ℕ → ℕ) where
     back = λ c n. absurd (n (get_or_zeros [] 256 c));
     met = λ z h n e. omega arith;
   }
-
-  -- n goes to its place
-  pub inverts_more : {n k : ℕ} {r : List ℕ} → k ≡ f n → f n < 256 → Inverts f n r → Inverts f (n + 1) (set r k n)
-  inverts_more {n} {k} {r} at h i = rw at (record {
-    bytes = length-set r (f n) n ∙ i.bytes;
-    back = λ c k. back c k (ℕ_discrete c (f n));
-    met = λ z l k. met z l k (ℕ_discrete (f z) (f n));
-  })
-    where
-      here : get_or (set r (f n) n) (f n) 0 ≡ n
-      here = get_or-set_same r (f n) n 0 (rw i.bytes h)
-
-      there : (c : ℕ) → (c ≡ f n → ⊥) → get_or (set r (f n) n) c 0 ≡ get_or r c 0
-      there c k = get_or-set_other r (f n) c n 0 k
-
-      back : (c : ℕ) → (get_or (set r (f n) n) c 0 ≡ 0 → ⊥) → Dec (c ≡ f n) → (get_or (set r (f n) n) c 0 < n + 1) × (f (get_or (set r (f n) n) c 0) ≡ c)
-      back c k (yes e) = rw (e, here) (omega arith, refl)
-      back c k (no d) = let b = i.back c (λ z. k (there c d ∙ z)) in rw (there c d) (omega arith, b.1)
-
-      met : (z : ℕ) → z < n + 1 → (z ≡ 0 → ⊥) → Dec (f z ≡ f n) → get_or (set r (f n) n) (f z) 0 ≡ 0 → ⊥
-      met z l k (yes e) o = let none : n ≡ 0 = sym here ∙ ap (λ c. get_or (set r (f n) n) c 0) (sym e) ∙ o in k (omega arith)
-      met z l k (no d) o =
-          let other : z ≡ n → ⊥ = λ e. d (ap f e) in
-          i.met z (omega (arith, other)) k (sym (there (f z) d) ∙ o)
 
 -- ---- what passes a test among f 0, f 1, ..
 
@@ -193,9 +168,6 @@ module _ {m : ℕ} (h : IsField m) (C : Curve) (below : coefficients_below (size
 -- ---- the points over all X
 
 module _ (m : ℕ) (C : Curve) where
-  pub found_none : AllFound m C 0 (replicate 256 0)
-  found_none = record { bytes = length-replicate {A = ℕ} 256 0; at = λ x h. absurd (not-suc-le-zero h) }
-
   pub found_more : {n y : ℕ} {ys : List ℕ} → n < 256 → AllFound m C n ys → Found m C n y → AllFound m C (n + 1) (set ys n y)
   found_more {n} {y} {ys} h a f = record { bytes = length-set ys n y ∙ a.bytes; at = λ x k. at x k (ℕ_discrete x n) }
     where

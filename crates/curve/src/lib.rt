@@ -1,12 +1,11 @@
-// Curves and their points, over a field that is given by its number and its two tables.
-#![tactic(auto)]
+// Curves and their points, over a field.
+#![tactic(auto, using(field::proofs::Galois::size_le))]
 
 ghost use Rattle.std.specs.Prelude.{◌≡◌, true, ◌∷◌, [], eqb, get_or};
 ghost use Rattle.basics.specs.Lists.{filter, table};
-ghost use Rattle.basics.specs.Outcome.{Meets};
+ghost use Rattle.basics.specs.Outcome.{Meets, count_of};
 ghost use Rattle.field.specs.Sum.{◌⊕◌};
 ghost use Rattle.field.specs.Galois.{IsField, size, galois, product, inverse};
-ghost use Rattle.field.specs.Tables.{Tables};
 ghost use Rattle.elliptic.specs.Curve.{point, right, on_curve, opposite, singular, affine_points};
 ghost use Rattle.elliptic.specs.Curve.{coefficients_below};
 ghost use Rattle.point_count.specs.Singular.{candidate};
@@ -14,55 +13,49 @@ ghost use Rattle.curve.specs.Points.{points_outcome};
 ghost use Rattle.curve.specs.Listing.{Rooms, Appends, Listed};
 ghost use Rattle.curve.specs.Roots.{square_plus, Inverts, Found, AllFound, lesser};
 
-use basics::byte::wide;
-use basics::{Answer, Refusal};
+use basics::Refusal;
 use elliptic::{Curve, Point};
-use field::{add, is_field, logarithms, powers, product, quotient, size};
+use field::{Field, add};
 
 // The length of each buffer for points.
 const ROOM: usize = 288;
 
 // The sum of the Y of a point over x and of its opposite.
-fn trace(m: u8, powers: &[u8; 1021], logs: &[u16; 512], c: Curve, x: u8) -> u8
-    requires { Tables m powers.now logs.now }
-    ensures { result ≡ product m c.g1 x ⊕ c.g3 }
+fn trace(field: &Field, c: Curve, x: u8) -> u8
+    ensures { result ≡ product field.now.number c.g1 x ⊕ c.g3 }
 {
-    add(product(m, powers, logs, c.g1, x), c.g3)
+    add(field.product(c.g1, x), c.g3)
 }
 
 // The right side of the curve's equation, by Horner's rule.
-fn right(m: u8, powers: &[u8; 1021], logs: &[u16; 512], c: Curve, x: u8) -> u8
-    requires { Tables m powers.now logs.now }
-    ensures { result ≡ right (galois m) c x }
+fn right(field: &Field, c: Curve, x: u8) -> u8
+    ensures { result ≡ right (galois field.now.number) c x }
 {
-    let a = add(product(m, powers, logs, x, add(x, c.g2)), c.g4);
-    add(product(m, powers, logs, x, a), c.g6)
+    let a = add(field.product(x, add(x, c.g2)), c.g4);
+    add(field.product(x, a), c.g6)
 }
 
-// Whether y solves Y² + typeof.t.Y = v, by one product.
-fn solves(m: u8, powers: &[u8; 1021], logs: &[u16; 512], t: u8, v: u8, y: u8) -> bool
-    requires { Tables m powers.now logs.now }
-    ensures { result ≡ eqb (product m y (y ⊕ t)) v }
+// Whether y solves Y² + t·Y = v, by one product.
+fn solves(field: &Field, t: u8, v: u8, y: u8) -> bool
+    ensures { result ≡ eqb (product field.now.number y (y ⊕ t)) v }
 {
-    product(m, powers, logs, y, add(y, t)) == v
+    field.product(y, add(y, t)) == v
 }
 
 // Whether p lies on the curve.
-pub fn on_curve(m: u8, powers: &[u8; 1021], logs: &[u16; 512], c: Curve, p: Point) -> bool
-    requires { Tables m powers.now logs.now }
-    ensures { result ≡ on_curve (galois m) c p }
+pub fn on_curve(field: &Field, c: Curve, p: Point) -> bool
+    ensures { result ≡ on_curve (galois field.now.number) c p }
 {
-    let t = trace(m, powers, logs, c, p.x);
-    let v = right(m, powers, logs, c, p.x);
-    solves(m, powers, logs, t, v, p.y)
+    let t = trace(field, c, p.x);
+    let v = right(field, c, p.x);
+    solves(field, t, v, p.y)
 }
 
 // The other point over the same x, or p itself.
-pub fn opposite(m: u8, powers: &[u8; 1021], logs: &[u16; 512], c: Curve, p: Point) -> Point
-    requires { Tables m powers.now logs.now }
-    ensures { result ≡ opposite (galois m) c p }
+pub fn opposite(field: &Field, c: Curve, p: Point) -> Point
+    ensures { result ≡ opposite (galois field.now.number) c p }
 {
-    let t = trace(m, powers, logs, c, p.x);
+    let t = trace(field, c, p.x);
     Point {
         x: p.x,
         y: add(p.y, t),
@@ -70,46 +63,33 @@ pub fn opposite(m: u8, powers: &[u8; 1021], logs: &[u16; 512], c: Curve, p: Poin
 }
 
 // Whether all five coefficients are elements of the field.
-pub fn coefficients_below(m: u8, c: Curve) -> bool
-    requires { IsField m }
-    ensures { result ≡ coefficients_below (size m) c }
+pub fn coefficients_below(field: &Field, c: Curve) -> bool
+    ensures { result ≡ coefficients_below (size field.now.number) c }
 {
-    let q = size(m);
-    if q <= wide(c.g1) {
-        return false;
-    }
-    if q <= wide(c.g2) {
-        return false;
-    }
-    if q <= wide(c.g3) {
-        return false;
-    }
-    if q <= wide(c.g4) {
-        return false;
-    }
-    wide(c.g6) < q
+    let q = field.size();
+    let coefficients = [c.g1, c.g2, c.g3, c.g4, c.g6];
+    coefficients.iter().all(|g| usize::from(*g) < q)
 }
 
 // The only point at which a curve can be singular, where g1 is not 0.
-fn candidate(m: u8, powers: &[u8; 1021], logs: &[u16; 512], c: Curve) -> Point
-    requires { Tables m powers.now logs.now }
-    ensures { result ≡ candidate (galois m) c }
+fn candidate(field: &Field, c: Curve) -> Point
+    ensures { result ≡ candidate (galois field.now.number) c }
 {
-    let x = quotient(m, powers, logs, c.g3, c.g1);
-    let a = add(product(m, powers, logs, x, x), c.g4);
-    let y = quotient(m, powers, logs, a, c.g1);
-    Point { x: x, y: y }
+    let x = field.quotient(c.g3, c.g1);
+    let a = add(field.product(x, x), c.g4);
+    let y = field.quotient(a, c.g1);
+    Point { x, y }
 }
 
 // Whether the curve is singular, by one point: no search over the field.
-pub fn is_singular(m: u8, powers: &[u8; 1021], logs: &[u16; 512], c: Curve) -> bool
-    requires { Tables m powers.now logs.now × (coefficients_below (size m) c ≡ true) }
-    ensures { result ≡ singular (galois m) c }
+pub fn is_singular(field: &Field, c: Curve) -> bool
+    requires { coefficients_below (size field.now.number) c ≡ true }
+    ensures { result ≡ singular (galois field.now.number) c }
 {
     if c.g1 == 0 {
         return c.g3 == 0;
     }
-    on_curve(m, powers, logs, c, candidate(m, powers, logs, c))
+    on_curve(field, c, candidate(field, c))
 }
 
 // Appends a point where there is room, and counts it.
@@ -127,106 +107,86 @@ fn append(xs: &mut [u8], ys: &mut [u8], count: usize, p: Point) -> usize
 
 // Appends the points over x, by Y, with one product for each Y.
 fn append_column(
-    m: u8,
-    powers: &[u8; 1021],
-    logs: &[u16; 512],
+    field: &Field,
     c: Curve,
     x: u8,
     xs: &mut [u8],
     ys: &mut [u8],
     start: usize,
 ) -> usize
-    requires { Tables m powers.now logs.now × Rooms xs.old ys.old }
-    ensures { Appends (filter (on_curve (galois m) c) (table (point x) (size m))) xs.old ys.old start xs.new ys.new result }
+    requires { Rooms xs.old ys.old }
+    ensures { Appends (filter (on_curve (galois field.now.number) c) (table (point x) (size field.now.number))) xs.old ys.old start xs.new ys.new result }
 {
-    let q = size(m);
-    let t = trace(m, powers, logs, c, x);
-    let v = right(m, powers, logs, c, x);
+    let t = trace(field, c, x);
+    let v = right(field, c, x);
     let mut count = start;
-    let mut y = 0;
-    while y < q {
+    for y in 0..field.size() {
         let b = y as u8;
-        if solves(m, powers, logs, t, v, b) {
-            count = append(xs, ys, count, Point { x: x, y: b });
+        if solves(field, t, v, b) {
+            count = append(xs, ys, count, Point { x, y: b });
         }
-        y += 1;
     }
     count
 }
 
 // Stores each z at z² + z. Two have the same z² + z, z and z + 1: the second stays, and none is 0.
-fn fill_roots(m: u8, powers: &[u8; 1021], logs: &[u16; 512], roots: &mut [u8; 256])
-    requires { Tables m powers.now logs.now × Inverts (square_plus m) 0 roots.old }
-    ensures { Inverts (square_plus m) (size m) roots.new }
+fn fill_roots(field: &Field, roots: &mut [u8; 256])
+    requires { Inverts (square_plus field.now.number) 0 roots.old }
+    ensures { Inverts (square_plus field.now.number) (size field.now.number) roots.new }
 {
-    let q = size(m);
-    let mut z = 0;
-    while z < q {
+    for z in 0..field.size() {
         let b = z as u8;
-        let at = wide(product(m, powers, logs, b, add(b, 1)));
+        let at = usize::from(field.product(b, add(b, 1)));
         roots[at] = b;
-        z += 1;
     }
 }
 
 // For each c a z with z² + z = c, or 0.
-fn roots(m: u8, powers: &[u8; 1021], logs: &[u16; 512]) -> [u8; 256]
-    requires { Tables m powers.now logs.now }
-    ensures { Inverts (square_plus m) (size m) result }
+fn roots(field: &Field) -> [u8; 256]
+    ensures { Inverts (square_plus field.now.number) (size field.now.number) result }
 {
     let mut roots = [0u8; 256];
-    fill_roots(m, powers, logs, &mut roots);
+    fill_roots(field, &mut roots);
     roots
 }
 
-// The z for v over t²: t·z then solves Y² + typeof.t.Y = v.
-fn root(m: u8, powers: &[u8; 1021], logs: &[u16; 512], roots: &[u8; 256], t: u8, v: u8) -> u8
-    requires { Tables m powers.now logs.now }
-    ensures { result ≡ get_or roots.now (product m (product m v (inverse m t)) (inverse m t)) 0 }
+// The z for v over t²: t·z then solves Y² + t·Y = v.
+fn root(field: &Field, roots: &[u8; 256], t: u8, v: u8) -> u8
+    ensures { result ≡ get_or roots.now (product field.now.number (product field.now.number v (inverse field.now.number t)) (inverse field.now.number t)) 0 }
 {
-    let c = quotient(m, powers, logs, quotient(m, powers, logs, v, t), t);
-    roots[wide(c)]
+    let c = field.quotient(field.quotient(v, t), t);
+    roots[usize::from(c)]
 }
 
 // A Y other than 0 over x, or 0 where there is none; unless x is the one whose points are their own opposites.
-fn find_y(m: u8, powers: &[u8; 1021], logs: &[u16; 512], roots: &[u8; 256], c: Curve, x: u8) -> u8
-    requires { Tables m powers.now logs.now × Inverts (square_plus m) (size m) roots.now × (coefficients_below (size m) c ≡ true) }
-    ensures { Found m c x result }
+// 0 stands for none here, in place of an Option, so that the loop over all x has no branch.
+fn find_y(field: &Field, roots: &[u8; 256], c: Curve, x: u8) -> u8
+    requires { Inverts (square_plus field.now.number) (size field.now.number) roots.now × (coefficients_below (size field.now.number) c ≡ true) }
+    ensures { Found field.now.number c x result }
 {
-    let t = trace(m, powers, logs, c, x);
-    let v = right(m, powers, logs, c, x);
-    product(m, powers, logs, t, root(m, powers, logs, roots, t, v))
+    let t = trace(field, c, x);
+    let v = right(field, c, x);
+    field.product(t, root(field, roots, t, v))
 }
 
 // The same for all x: the points are appended later, so that no search waits for a branch.
-fn fill_found(
-    m: u8,
-    powers: &[u8; 1021],
-    logs: &[u16; 512],
-    roots: &[u8; 256],
-    c: Curve,
-    found: &mut [u8; 256],
-)
-    requires tables { Tables m powers.now logs.now × Inverts (square_plus m) (size m) roots.now × (coefficients_below (size m) c ≡ true) }
-    requires all_found { AllFound m c 0 found.old }
-    ensures { AllFound m c (size m) found.new }
+fn fill_found(field: &Field, roots: &[u8; 256], c: Curve, found: &mut [u8; 256])
+    requires tables { Inverts (square_plus field.now.number) (size field.now.number) roots.now × (coefficients_below (size field.now.number) c ≡ true) }
+    requires all_found { AllFound field.now.number c 0 found.old }
+    ensures { AllFound field.now.number c (size field.now.number) found.new }
 {
-    let q = size(m);
-    let mut x = 0;
-    while x < q {
-        let y = find_y(m, powers, logs, roots, c, x as u8);
-        found[x] = y;
-        x += 1;
+    for x in 0..field.size() {
+        found[x] = find_y(field, roots, c, x as u8);
     }
 }
 
-fn find_all(m: u8, powers: &[u8; 1021], logs: &[u16; 512], c: Curve) -> [u8; 256]
-    requires { Tables m powers.now logs.now × (coefficients_below (size m) c ≡ true) }
-    ensures { AllFound m c (size m) result }
+fn find_all(field: &Field, c: Curve) -> [u8; 256]
+    requires { coefficients_below (size field.now.number) c ≡ true }
+    ensures { AllFound field.now.number c (size field.now.number) result }
 {
-    let roots = roots(m, powers, logs);
+    let roots = roots(field);
     let mut found = [0u8; 256];
-    fill_found(m, powers, logs, &roots, c, &mut found);
+    fill_found(field, &roots, c, &mut found);
     found
 }
 
@@ -243,15 +203,13 @@ fn append_pair(xs: &mut [u8], ys: &mut [u8], start: usize, x: u8, y: u8, t: u8) 
 {
     let low = lesser(y, add(y, t));
     let high = add(low, t);
-    let count = append(xs, ys, start, Point { x: x, y: low });
-    append(xs, ys, count, Point { x: x, y: high })
+    let count = append(xs, ys, start, Point { x, y: low });
+    append(xs, ys, count, Point { x, y: high })
 }
 
 // Appends the points over x, by Y, where y is what was found for x.
 fn append_over(
-    m: u8,
-    powers: &[u8; 1021],
-    logs: &[u16; 512],
+    field: &Field,
     c: Curve,
     x: u8,
     y: u8,
@@ -259,12 +217,12 @@ fn append_over(
     ys: &mut [u8],
     start: usize,
 ) -> usize
-    requires { Tables m powers.now logs.now × Found m c x y × Rooms xs.old ys.old }
-    ensures { Appends (filter (on_curve (galois m) c) (table (point x) (size m))) xs.old ys.old start xs.new ys.new result }
+    requires { Found field.now.number c x y × Rooms xs.old ys.old }
+    ensures { Appends (filter (on_curve (galois field.now.number) c) (table (point x) (size field.now.number))) xs.old ys.old start xs.new ys.new result }
 {
-    let t = trace(m, powers, logs, c, x);
+    let t = trace(field, c, x);
     if t == 0 {
-        return append_column(m, powers, logs, c, x, xs, ys, start);
+        return append_column(field, c, x, xs, ys, start);
     }
     if y == 0 {
         return start;
@@ -273,49 +231,34 @@ fn append_over(
 }
 
 // Lists all points, by X, then Y.
-fn fill_points(
-    m: u8,
-    powers: &[u8; 1021],
-    logs: &[u16; 512],
-    c: Curve,
-    xs: &mut [u8],
-    ys: &mut [u8],
-) -> usize
-    requires tables { Tables m powers.now logs.now }
-    requires c_value { (coefficients_below (size m) c ≡ true) × Rooms xs.old ys.old }
-    ensures { Listed (affine_points (galois m) c) xs.old ys.old xs.new ys.new result }
+fn fill_points(field: &Field, c: Curve, xs: &mut [u8], ys: &mut [u8]) -> usize
+    requires c_value { (coefficients_below (size field.now.number) c ≡ true) × Rooms xs.old ys.old }
+    ensures { Listed (affine_points (galois field.now.number) c) xs.old ys.old xs.new ys.new result }
 {
-    let q = size(m);
-    let found = find_all(m, powers, logs, c);
+    let found = find_all(field, c);
     let mut count = 0;
-    let mut x = 0;
-    while x < q {
-        count = append_over(m, powers, logs, c, x as u8, found[x], xs, ys, count);
-        x += 1;
+    for x in 0..field.size() {
+        count = append_over(field, c, x as u8, found[x], xs, ys, count);
     }
     count
 }
 
 // Document 01's Points.
-pub fn points(m: u8, c: Curve, xs: &mut [u8], ys: &mut [u8]) -> Answer
-    ensures { Meets (points_outcome m c xs.old ys.old) result (xs.old, ys.old) (xs.new, ys.new) }
+pub fn points(m: u8, c: Curve, xs: &mut [u8], ys: &mut [u8]) -> Result<usize, Refusal>
+    ensures { Meets (points_outcome m c xs.old ys.old) (count_of result) (xs.old, ys.old) (xs.new, ys.new) }
 {
-    if !is_field(m) {
-        return Answer::Refused(Refusal::FieldNumber);
+    let field = Field::new(m)?;
+    if !coefficients_below(&field, c) {
+        return Err(Refusal::CurveCoefficient);
     }
-    if !coefficients_below(m, c) {
-        return Answer::Refused(Refusal::CurveCoefficient);
-    }
-    let powers = powers(m);
-    let logs = logarithms(m);
-    if is_singular(m, &powers, &logs, c) {
-        return Answer::Refused(Refusal::Singular);
+    if is_singular(&field, c) {
+        return Err(Refusal::Singular);
     }
     if xs.len() != ROOM {
-        return Answer::Refused(Refusal::Length);
+        return Err(Refusal::Length);
     }
     if ys.len() != ROOM {
-        return Answer::Refused(Refusal::Length);
+        return Err(Refusal::Length);
     }
-    Answer::Counted(fill_points(m, &powers, &logs, c, xs, ys))
+    Ok(fill_points(&field, c, xs, ys))
 }

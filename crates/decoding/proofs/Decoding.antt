@@ -1,4 +1,5 @@
 -- THEOREM: the codeword within t is found where there is one, and the operation accepts exactly then.
+use Rattle.basics.specs.Outcome.{Done}
 use Prim.Native.Nat.{ℕ, ◌<◌, ◌≤◌}
 use mathlib.Core.Path.{◌≡◌, refl, sym, ◌∙◌, ap, ap₂, subst}
 use mathlib.Core.Bool.{Bool, true, false, not, cond}
@@ -11,7 +12,6 @@ use native.Mathlib.Omega.{arith}
 use lib.Dec.{eqb, ltb}
 use lib.ListN.{length, length-map}
 use borrow.Author.Tests.{eqb-false, not-true, ltb-true, lt-ltb, le-leb}
-use Rattle.basics.specs.declared.Answer.TheVariants.{Done}
 use Rattle.basics.specs.Lists.{filter}
 use Rattle.basics.proofs.Lists.{both_left, both_right, both_true}
 use Rattle.elliptic.specs.Pair.{evaluate}

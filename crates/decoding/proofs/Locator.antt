@@ -12,7 +12,7 @@ use Rattle.basics.specs.Lists.{filter}
 use Rattle.field.specs.Sum.{◌⊕◌}
 use Rattle.field.proofs.Sum.{⊕_self, ⊕_eq}
 use Rattle.field.specs.Field.{Arithmetic, Field}
-use Rattle.field.proofs.Field.{ring, ·_zero, no_zero_div}
+use Rattle.field.proofs.Laws.{ring, ·_zero, no_zero_div}
 use Rattle.elliptic.specs.declared.Curve.{Curve}
 use Rattle.elliptic.specs.declared.Point.{Point}
 use Rattle.elliptic.specs.Curve.{point}

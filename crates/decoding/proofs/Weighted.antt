@@ -9,7 +9,7 @@ use lib.ListN.{length, get_or, get_or-eq_default}
 use Rattle.field.specs.Sum.{◌⊕◌}
 use Rattle.field.proofs.Sum.{zero_⊕}
 use Rattle.field.specs.Field.{Arithmetic, Field}
-use Rattle.field.proofs.Field.{ring, zero_lt, ·_zero}
+use Rattle.field.proofs.Laws.{ring, zero_lt, ·_zero}
 use Rattle.elliptic.specs.declared.Point.{Point}
 use Rattle.elliptic.specs.Functions.{weight}
 use Rattle.elliptic.specs.Pair.{horner, evaluate, add_scaled, shifted, times_linear}

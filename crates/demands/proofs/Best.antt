@@ -1,4 +1,5 @@
 -- Request S-7: past the tests before 23 the budget decides, and what is accepted is as the crate patterns promises of the definitions.
+use Rattle.basics.specs.Outcome.{Done, Refused}
 use Prim.Native.Nat.{ℕ, min}
 use mathlib.Core.Path.{◌≡◌, refl, sym, ◌∙◌, ap}
 use mathlib.Core.Bool.{Bool, true, false}
@@ -8,7 +9,6 @@ use native.Mathlib.Omega.{arith}
 use lib.Dec.{leb}
 use lib.ListN.{get_or}
 use borrow.Author.Tests.{leb-true, le-leb}
-use Rattle.basics.specs.declared.Answer.TheVariants.{Done, Refused}
 use Rattle.basics.specs.declared.Refusal.TheVariants.{Length, Budget}
 use Rattle.basics.proofs.Lists.{both_left, both_right, both_true}
 use Rattle.codewords.specs.Code.{Code, q, code_answer}

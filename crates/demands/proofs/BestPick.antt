@@ -1,5 +1,6 @@
 -- Request S-6: rank for rank, no usable choice from the ranking comes before what Pick gives. The ranks of a choice rise, so the i-th is at least i; and where
 -- ranks 1 to k are dependent no usable choice is made of these, so the last rank of each is past k.
+use Rattle.basics.specs.Outcome.{Done}
 use Prim.Native.Nat.{ℕ, suc, ◌-◌, ◌<◌, ◌≤◌}
 use mathlib.Core.Path.{◌≡◌, refl, sym, ◌∙◌, ap, subst}
 use mathlib.Core.Bool.{Bool, true, false, not, cond, ◌&&◌}
@@ -13,7 +14,6 @@ use lib.Dec.{eqb, ltb}
 use lib.ListN.{length, get_or, take, drop, length-map}
 use lib.Seq.{take_all}
 use borrow.Author.Tests.{eqb-true, eqb-false, leb-true, ltb-true, ltb-false}
-use Rattle.basics.specs.declared.Answer.TheVariants.{Done}
 use Rattle.basics.specs.Lists.{all}
 use Rattle.basics.proofs.Lists.{both_left, both_right, both_true}
 use Rattle.elliptic.specs.Functions.{nonzero, value}

@@ -10,12 +10,10 @@ use lib.Dec.{eqb}
 use lib.IntN.{ℤ}
 use lib.ListN.{length, replicate, drop, length-replicate}
 use borrow.Author.Tests.{eqb-true, eq-eqb}
-use Rattle.basics.specs.declared.Answer.{Answer}
-use Rattle.basics.specs.declared.Answer.TheVariants.{Done, Refused}
 use Rattle.basics.specs.declared.Refusal.TheVariants.{Length, Symbol, Reading, NeverPacked}
 use Rattle.basics.specs.Bits.{value, word, is_word, is_zero}
 use Rattle.basics.specs.Lists.{all, table}
-use Rattle.basics.specs.Outcome.{Outcome, refused, accepted, counted, answer, left, Meets}
+use Rattle.basics.specs.Outcome.{Answer, Done, Refused, Outcome, refused, accepted, counted, answer, left, Meets}
 use Rattle.basics.proofs.BitLists.{zero_join}
 use Rattle.basics.proofs.Lists.{both_left, both_right, both_true, all_replicate, all_take, all_drop, length_table, table_as, is_table, get_or_zeros}
 use Rattle.basics.proofs.Outcomes.{passed}

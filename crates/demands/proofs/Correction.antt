@@ -1,4 +1,5 @@
 -- Request S-1: past its tests Correct is decided by whether a codeword lies within t, and by the theorem on words near a codeword there is at most one.
+use Rattle.basics.specs.Outcome.{Answer, Counted, Done, Refused}
 use Prim.Native.Nat.{ℕ, ◌≤◌}
 use mathlib.Core.Path.{◌≡◌, refl, sym, ◌∙◌, ap, subst}
 use mathlib.Core.Bool.{true, false}
@@ -7,8 +8,6 @@ use mathlib.Core.List.{List, [], ◌∷◌, Memᴰ as In}
 use native.Mathlib.Omega.{arith}
 use lib.ListN.{length}
 use borrow.Author.Tests.{eq-eqb}
-use Rattle.basics.specs.declared.Answer.{Answer}
-use Rattle.basics.specs.declared.Answer.TheVariants.{Done, Counted, Refused}
 use Rattle.basics.specs.declared.Refusal.{Refusal}
 use Rattle.basics.specs.declared.Refusal.TheVariants.{TooFar}
 use Rattle.codewords.specs.Code.{Code, n, code_answer}

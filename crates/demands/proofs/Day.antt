@@ -1,4 +1,5 @@
 -- A packed block is a message; its word is a codeword that agrees with what is heard of it, and Rebuild gives the one codeword that does.
+use Rattle.basics.specs.Outcome.{Answer, Done}
 use Prim.Native.Nat.{ℕ, ◌-◌, ◌≤◌, ◌<◌}
 use mathlib.Core.Path.{◌≡◌, refl, sym, ◌∙◌, ap, subst}
 use mathlib.Core.Bool.{Bool, true, false}
@@ -11,8 +12,6 @@ use lib.Dec.{eqb, ltb}
 use lib.IntN.{ℤ}
 use lib.ListN.{length, get_or, length-map}
 use borrow.Author.Tests.{eqb-true, eqb-false, eq-eqb}
-use Rattle.basics.specs.declared.Answer.{Answer}
-use Rattle.basics.specs.declared.Answer.TheVariants.{Done}
 use Rattle.basics.proofs.Lists.{both_true, all_get, all_of, get_or_map_in, same_true, same_refl}
 use Rattle.codewords.specs.Code.{Code, n, q, code_answer}
 use Rattle.codewords.specs.Codewords.{place, symbol_at, agrees, places, choice, symbols, message, codeword, agreeing, count, usable}

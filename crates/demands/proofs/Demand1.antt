@@ -9,11 +9,9 @@ use lib.IntN.{ℤ}
 use lib.ListN.{length, take, drop, replicate, length-append, length-drop, length-map, length-replicate}
 use lib.Seq.{take-append_seam, drop-append_seam}
 use borrow.Author.Tests.{eqb-true, eqb-false, leb-true, not-true}
-use Rattle.basics.specs.declared.Answer.{Answer}
-use Rattle.basics.specs.declared.Answer.TheVariants.{Done, Counted}
 use Rattle.basics.specs.Bits.{word as word_at}
 use Rattle.basics.specs.Lists.{written, table}
-use Rattle.basics.specs.Outcome.{accepted, counted, answer, counts, Meets}
+use Rattle.basics.specs.Outcome.{Answer, Done, Counted, accepted, counted, answer, counts, Meets}
 use Rattle.basics.proofs.Lists.{both_left, both_right, both_true, length_table, length_filter}
 use Rattle.field.specs.Galois.{galois, width}
 use Rattle.field.proofs.Galois.{is_field_lem}

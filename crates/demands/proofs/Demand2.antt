@@ -9,15 +9,13 @@ use native.Mathlib.Omega.{arith}
 use lib.Dec.{eqb, ltb}
 use lib.ListN.{length, get_or}
 use borrow.Author.Tests.{eq-eqb, ltb-true, lt-ltb}
-use Rattle.basics.specs.declared.Answer.{Answer}
-use Rattle.basics.specs.declared.Answer.TheVariants.{Done}
 use Rattle.basics.specs.declared.Refusal.TheVariants.{Length, NoCodeword}
-use Rattle.basics.specs.Outcome.{Meets}
+use Rattle.basics.specs.Outcome.{Answer, Done, Meets}
 use Rattle.basics.specs.Lists.{all}
 use Rattle.basics.proofs.Lists.{both_left, both_right, both_true}
 use Rattle.field.specs.Sum.{◌⊕◌}
 use Rattle.field.specs.Field.{Arithmetic, Field, pow}
-use Rattle.field.proofs.Field.{ring, zero_lt, mul_one}
+use Rattle.field.proofs.Laws.{ring, zero_lt, mul_one}
 use Rattle.elliptic.specs.declared.Point.{Point}
 use Rattle.elliptic.specs.Curve.{in_field}
 use Rattle.elliptic.specs.Functions.{weight, degree, monomial, sum_from, value}

@@ -9,11 +9,9 @@ use native.Mathlib.Omega.{arith}
 use lib.Dec.{eqb}
 use lib.ListN.{length, take}
 use borrow.Author.Tests.{eq-eqb, ne_eqb, le-leb, not-false}
-use Rattle.basics.specs.declared.Answer.{Answer}
-use Rattle.basics.specs.declared.Answer.TheVariants.{Done, Refused}
 use Rattle.basics.specs.declared.Refusal.{Refusal}
 use Rattle.basics.specs.declared.Refusal.TheVariants.{Length, Dependent, TooFew, NoCodeword, Independent}
-use Rattle.basics.specs.Outcome.{Outcome, accepted, check, Meets}
+use Rattle.basics.specs.Outcome.{Answer, Done, Refused, Outcome, accepted, check, Meets}
 use Rattle.basics.proofs.Lists.{both_true, both_left, both_right}
 use Rattle.basics.proofs.Outcomes.{meets_as}
 use Rattle.elliptic.specs.Functions.{nonzero}

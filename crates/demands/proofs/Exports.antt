@@ -9,9 +9,7 @@ use Rattle.basics.specs.declared.Refusal.{Refusal}
 use Rattle.basics.specs.declared.Refusal.TheVariants.{FieldNumber, CurveCoefficient, Singular, PointCount, OffCurve, RepeatedPoint, Dimension}
 use Rattle.basics.specs.declared.Refusal.TheVariants.{Length, Place, RepeatedPlace, Symbol, Dependent, TooFew, NoCodeword, Independent}
 use Rattle.basics.specs.declared.Refusal.TheVariants.{Reading, NeverPacked, StampOrder, Hour, SheetShape, TooFar, NoRun, Budget}
-use Rattle.basics.specs.declared.Answer.{Answer}
-use Rattle.basics.specs.declared.Answer.TheVariants.{Done, Counted, Refused}
-use Rattle.basics.specs.Outcome.{Outcome, answer, number, status, Meets, Reports}
+use Rattle.basics.specs.Outcome.{Answer, Done, Counted, Refused, Outcome, answer, number, status, Meets, Reports}
 
 -- THEOREM
 pub reported : {M : Type 0} {o : Outcome M} {r : ℤ} {old new : M} → Reports o r old new → (a : Answer) × Meets o a old new × (r ≡ status a)

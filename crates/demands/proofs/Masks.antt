@@ -8,9 +8,7 @@ use native.Mathlib.Omega.{arith}
 use borrow.Author.Tests.{eqb-true, leb-true}
 use lib.Dec.{eqb, leb}
 use lib.ListN.{length, take, length-append, length-map}
-use Rattle.basics.specs.declared.Answer.{Answer}
-use Rattle.basics.specs.declared.Answer.TheVariants.{Done, Counted}
-use Rattle.basics.specs.Outcome.{Meets}
+use Rattle.basics.specs.Outcome.{Answer, Done, Counted, Meets}
 use Rattle.basics.specs.SetBits.{Bytes, found}
 use Rattle.basics.proofs.Lists.{both_right}
 use Rattle.basics.proofs.LittleEndian.{part_lt}

@@ -1,4 +1,5 @@
 -- A list of agreeing codewords, of coefficients or of relations that has one entry says of that entry that it is the one.
+use Rattle.basics.specs.Outcome.{Done}
 use Prim.Native.Nat.{ℕ}
 use mathlib.Core.Path.{◌≡◌, refl, sym, ◌∙◌, ap, subst}
 use mathlib.Core.Bool.{true, ◌&&◌}
@@ -8,7 +9,6 @@ use mathlib.Core.List.{List, [], ◌∷◌, Memᴰ as In}
 use lib.Dec.{eqb}
 use lib.ListN.{length}
 use borrow.Author.Tests.{eqb-true, eq-eqb, leb-true, le-leb}
-use Rattle.basics.specs.declared.Answer.TheVariants.{Done}
 use Rattle.basics.specs.Lists.{same}
 use Rattle.basics.proofs.Lists.{both_left, both_right, both_true, same_true, same_refl}
 use Rattle.elliptic.specs.Functions.{leading}

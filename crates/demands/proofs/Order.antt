@@ -7,9 +7,7 @@ use mathlib.Core.Logic.{◌↔◌}
 use mathlib.Core.List.{List, [], ◌∷◌, ◌++◌}
 use native.Mathlib.Omega.{arith}
 use Rattle.basics.specs.declared.Refusal.{Refusal}
-use Rattle.basics.specs.declared.Answer.{Answer}
-use Rattle.basics.specs.declared.Answer.TheVariants.{Done, Refused}
-use Rattle.basics.specs.Outcome.{Outcome, refused, accepted, counted, check, answer, left, Meets}
+use Rattle.basics.specs.Outcome.{Answer, Done, Refused, Outcome, refused, accepted, counted, check, answer, left, Meets}
 use Rattle.codewords.specs.Code.{Code, code_answer}
 use Rattle.demands.specs.Order.{Test, first, numbers, code_tests}
 use Rattle.demands.specs.Demand1.{Answers}

@@ -10,11 +10,9 @@ use native.Mathlib.Omega.{arith}
 use lib.Dec.{eqb}
 use lib.ListN.{length, length-map}
 use borrow.Author.Tests.{eq-eqb, le-leb}
-use Rattle.basics.specs.declared.Answer.{Answer}
-use Rattle.basics.specs.declared.Answer.TheVariants.{Done, Counted, Refused}
 use Rattle.basics.specs.declared.Refusal.{Refusal}
 use Rattle.basics.specs.declared.Refusal.TheVariants.{Length, Place, RepeatedPlace, Symbol}
-use Rattle.basics.specs.Outcome.{Outcome, accepted, counted, check, answer, left, Meets}
+use Rattle.basics.specs.Outcome.{Answer, Done, Counted, Refused, Outcome, accepted, counted, check, answer, left, Meets}
 use Rattle.basics.proofs.Lists.{both_left, both_right, length_table}
 use Rattle.codewords.specs.Code.{Code, n, code_answer, check_code}
 use Rattle.codewords.specs.Codewords.{below, all_places, places_differ, places, choice, symbols, message}

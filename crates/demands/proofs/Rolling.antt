@@ -8,10 +8,8 @@ use native.Mathlib.Omega.{arith}
 use borrow.Author.Tests.{eqb-true, eq-eqb}
 use lib.IntN.{ℤ, pos}
 use lib.ListN.{length, replicate}
-use Rattle.basics.specs.declared.Answer.{Answer}
-use Rattle.basics.specs.declared.Answer.TheVariants.{Done, Refused}
 use Rattle.basics.specs.declared.Refusal.TheVariants.{Length, Reading, NoRun}
-use Rattle.basics.specs.Outcome.{accepted, check, answer, Meets}
+use Rattle.basics.specs.Outcome.{Answer, Done, Refused, accepted, check, answer, Meets}
 use Rattle.basics.specs.SetBits.{Bytes}
 use Rattle.basics.proofs.Outcomes.{passed, accept, pass, meets_as}
 use Rattle.hours.specs.Means.{absent}

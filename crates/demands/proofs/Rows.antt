@@ -1,4 +1,5 @@
 -- Rows of n that are joined stand in the parts of n one after the other; so do the rows of Matrix, each of which is a codeword.
+use Rattle.basics.specs.Outcome.{Done}
 use Prim.Native.Nat.{ℕ, zero, suc, ◌+◌, ◌*◌, ◌<◌}
 use mathlib.Core.Path.{◌≡◌, sym, ◌∙◌, ap, subst}
 use mathlib.Core.Bool.{true}
@@ -7,7 +8,6 @@ use native.Mathlib.Nat.{zero-mul, suc-mul}
 use native.Mathlib.Omega.{arith}
 use lib.ListN.{length, get_or, take, drop, length-append}
 use lib.Seq.{take-append_seam, drop-append-add}
-use Rattle.basics.specs.declared.Answer.TheVariants.{Done}
 use Rattle.basics.proofs.Lists.{length_table}
 use Rattle.elliptic.proofs.Points.{All, all_head, all_tail, all_of}
 use Rattle.codewords.specs.Code.{Code, n, code_answer}

@@ -8,10 +8,9 @@ use lib.Dec.{eqb}
 use lib.IntN.{pos}
 use lib.ListN.{length, length-map}
 use borrow.Author.Tests.{eq-eqb}
-use Rattle.basics.specs.declared.Answer.TheVariants.{Done}
 use Rattle.basics.specs.declared.Refusal.TheVariants.{Singular}
 use Rattle.basics.specs.Lists.{written}
-use Rattle.basics.specs.Outcome.{refused, accepted, counted}
+use Rattle.basics.specs.Outcome.{Done, refused, accepted, counted}
 use Rattle.basics.proofs.Lists.{both_true}
 use Rattle.basics.proofs.Outcomes.{check_true, check_false}
 use Rattle.field.specs.Sum.{◌⊕◌}

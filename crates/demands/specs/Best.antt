@@ -1,10 +1,8 @@
 -- Request S-7 as calls: "within a budget of 1 to 65,535 tries, give the cheapest tried codeword (the earliest of equals), its cost, the tries made .. and a gap."
 -- What the ranking, the picked places, the tries and the costs are is said in the crate patterns.
 use Rattle.std.specs.Prelude.{ℕ, ◌+◌, ◌<◌, ◌≤◌, min, ◌≡◌, true, ◌↔◌, List, [], ◌∷◌, map, length, get_or}
-use Rattle.basics.specs.declared.Answer.{Answer}
-use Rattle.basics.specs.declared.Answer.TheVariants.{Done, Refused}
 use Rattle.basics.specs.declared.Refusal.TheVariants.{Budget}
-use Rattle.basics.specs.Outcome.{Meets}
+use Rattle.basics.specs.Outcome.{Answer, Done, Refused, Meets}
 use Rattle.codewords.specs.Code.{Code, q, n}
 use Rattle.codewords.specs.Codewords.{symbols, codeword}
 use Rattle.solving.specs.Tests.{room, cleared}

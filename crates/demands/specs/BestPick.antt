@@ -1,6 +1,6 @@
 -- Request S-6, "the pick is the best there is": of all usable choices from its ranking, what Pick gives has the largest total and comes first.
+use Rattle.basics.specs.Outcome.{Done}
 use Rattle.std.specs.Prelude.{ℕ, ◌≤◌, ◌≡◌, true, ◌⊎◌, List, leb, length}
-use Rattle.basics.specs.declared.Answer.TheVariants.{Done}
 use Rattle.basics.specs.Lists.{all}
 use Rattle.codewords.specs.Code.{Code, code_answer}
 use Rattle.codewords.specs.Codewords.{places, choice, usable}

@@ -1,11 +1,9 @@
 -- Pack and Unpack as calls: each undoes the other, 17 is what Pack never writes, and a symbol of field m takes m bits, of field 9 it takes 8.
 use Rattle.std.specs.Prelude.{ℕ, ◌≤◌, ◌≡◌, true, ◌↔◌, List, [], ℤ, length, replicate}
-use Rattle.basics.specs.declared.Answer.{Answer}
-use Rattle.basics.specs.declared.Answer.TheVariants.{Done, Refused}
 use Rattle.basics.specs.declared.Refusal.TheVariants.{NeverPacked}
 use Rattle.basics.specs.Lists.{all}
 use Rattle.basics.specs.Bits.{is_word}
-use Rattle.basics.specs.Outcome.{Meets}
+use Rattle.basics.specs.Outcome.{Answer, Done, Refused, Meets}
 use Rattle.field.specs.Galois.{width}
 use Rattle.codewords.specs.Code.{Code}
 use Rattle.hours.specs.Packing.{capacity, Writes}

@@ -1,7 +1,6 @@
 -- A call of an operation that is lent an output and a working space: its answer, and what these hold before and after it.
 use Rattle.std.specs.Prelude.{ℕ, ◌≤◌, ◌≡◌, List, length}
-use Rattle.basics.specs.declared.Answer.{Answer}
-use Rattle.basics.specs.Outcome.{Outcome, Meets}
+use Rattle.basics.specs.Outcome.{Answer, Outcome, Meets}
 use Rattle.solving.specs.Tests.{Lent, room}
 
 pub record Call : Type 0 where

@@ -1,7 +1,7 @@
 -- Request S-1: "an operation that takes n symbols, lends working space as for Recover, and writes the codeword that differs from them in at most t places,
 -- with the count of places changed." Each clause is of calls to which no number before 21 applies.
+use Rattle.basics.specs.Outcome.{Counted, Refused}
 use Rattle.std.specs.Prelude.{ℕ, ◌+◌, ◌*◌, ◌≤◌, ◌≡◌, true, ◌↔◌, List, length}
-use Rattle.basics.specs.declared.Answer.TheVariants.{Counted, Refused}
 use Rattle.basics.specs.declared.Refusal.TheVariants.{TooFar}
 use Rattle.codewords.specs.Code.{Code, n}
 use Rattle.codewords.specs.Codewords.{symbols, codeword}

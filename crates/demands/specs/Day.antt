@@ -1,7 +1,6 @@
 -- From one end to the other: the means of a block that was packed, coded, sent, heard in part and rebuilt come back.
+use Rattle.basics.specs.Outcome.{Answer, Done}
 use Rattle.std.specs.Prelude.{ℕ, ◌≤◌, ◌≡◌, true, List, map, ℤ, length}
-use Rattle.basics.specs.declared.Answer.{Answer}
-use Rattle.basics.specs.declared.Answer.TheVariants.{Done}
 use Rattle.codewords.specs.Code.{Code, n}
 use Rattle.codewords.specs.Codewords.{place, symbol_at, places, choice, usable}
 use Rattle.coder.specs.Outcomes.{systematic_word_outcome, rebuild_outcome}

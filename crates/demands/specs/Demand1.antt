@@ -2,10 +2,8 @@
 -- applies in document 01's order, and changes no lent byte." That every call ends without a fault is what the check of each function says.
 use Rattle.std.specs.Prelude.{ℕ, ◌≤◌, ◌≡◌, ◌↔◌, true, false, List, [], ◌∷◌, ◌++◌, map, ℤ, length, take, drop, replicate}
 use Rattle.basics.specs.declared.Refusal.{Refusal}
-use Rattle.basics.specs.declared.Answer.{Answer}
-use Rattle.basics.specs.declared.Answer.TheVariants.{Done, Counted, Refused}
 use Rattle.basics.specs.Lists.{table}
-use Rattle.basics.specs.Outcome.{answer, Meets}
+use Rattle.basics.specs.Outcome.{Answer, Done, Counted, Refused, answer, Meets}
 use Rattle.field.specs.Galois.{IsField, galois, size, width}
 use Rattle.elliptic.specs.declared.Curve.{Curve}
 use Rattle.elliptic.specs.Curve.{coefficients_below, singular, affine_points}

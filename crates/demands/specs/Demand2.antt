@@ -1,10 +1,8 @@
 -- Demand 2: "A codeword is the list of values at the listed points of a function of weighted degree at most k. Coefficients go to that codeword, it
 -- goes back to those coefficients, and a word that is no codeword is refused."
 use Rattle.std.specs.Prelude.{ℕ, ◌+◌, ◌*◌, ◌-◌, ◌≤◌, ◌≡◌, true, false, ◌⊎◌, ◌↔◌, List, map, length, get_or}
-use Rattle.basics.specs.declared.Answer.{Answer}
-use Rattle.basics.specs.declared.Answer.TheVariants.{Done, Refused}
 use Rattle.basics.specs.declared.Refusal.TheVariants.{NoCodeword}
-use Rattle.basics.specs.Outcome.{Meets}
+use Rattle.basics.specs.Outcome.{Answer, Done, Refused, Meets}
 use Rattle.field.specs.Field.{pow}
 use Rattle.elliptic.specs.declared.Point.{Point}
 use Rattle.elliptic.specs.Curve.{in_field}

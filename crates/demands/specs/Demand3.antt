@@ -1,7 +1,7 @@
 -- Demand 3: which choices of places work, and what each operation over places does at those that do and at those that do not.
 -- Each clause is of calls to which no number listed before 12 (in Relation, before 15) applies.
+use Rattle.basics.specs.Outcome.{Done, Refused}
 use Rattle.std.specs.Prelude.{ℕ, ◌*◌, ◌<◌, ◌≡◌, true, false, cond, ◌⊎◌, ◌↔◌, List, length, take, drop}
-use Rattle.basics.specs.declared.Answer.TheVariants.{Done, Refused}
 use Rattle.basics.specs.declared.Refusal.TheVariants.{Dependent, NoCodeword, Independent}
 use Rattle.elliptic.specs.Functions.{nonzero, leading}
 use Rattle.codewords.specs.Code.{Code, q, n}

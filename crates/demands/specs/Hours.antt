@@ -1,10 +1,8 @@
 -- Means as calls: request S-2's "hour h holds stamps 60h + 1 to 60h + 60, and stamp 0 is in no hour and gives 19", and document 01's "every reading is
 -- counted in one hour and one only".
 use Rattle.std.specs.Prelude.{ℕ, ◌+◌, ◌*◌, ◌≤◌, ◌<◌, ◌≡◌, true, ◌↔◌, List, ℤ, length, get_or}
-use Rattle.basics.specs.declared.Answer.{Answer}
-use Rattle.basics.specs.declared.Answer.TheVariants.{Done, Refused}
 use Rattle.basics.specs.declared.Refusal.TheVariants.{Hour}
-use Rattle.basics.specs.Outcome.{Meets}
+use Rattle.basics.specs.Outcome.{Answer, Done, Refused, Meets}
 use Rattle.hours.specs.Means.{in_hour, increasing, means_outcome, EachOnce}
 
 -- stamps, readings and the first hour of a call, the answer, and the means before and after

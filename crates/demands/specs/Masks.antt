@@ -2,9 +2,7 @@
 -- are those of the mask's five numbers.
 use Rattle.std.specs.Prelude.{ℕ, zero, suc, ◌+◌, ◌*◌, ◌^◌, ◌<◌, ◌≡◌, List, [], ◌++◌, map, take}
 use Rattle.std.specs.Int.Count.{ones}
-use Rattle.basics.specs.declared.Answer.{Answer}
-use Rattle.basics.specs.declared.Answer.TheVariants.{Done, Counted}
-use Rattle.basics.specs.Outcome.{Meets}
+use Rattle.basics.specs.Outcome.{Answer, Done, Counted, Meets}
 use Rattle.basics.specs.SetBits.{Bytes, found, Finds}
 use Rattle.codewords.specs.Code.{Code}
 use Rattle.code.specs.Heard.{heard_outcome}

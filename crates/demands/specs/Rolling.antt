@@ -1,10 +1,8 @@
 -- Request S-5 as calls: "a running state", what a run of accepted calls gives, and what 16 and 22 refuse.
 use Rattle.std.specs.Prelude.{ℕ, ◌^◌, ◌<◌, ◌≡◌, true, false, ◌↔◌, List, [], ◌∷◌, ℤ, length}
-use Rattle.basics.specs.declared.Answer.{Answer}
-use Rattle.basics.specs.declared.Answer.TheVariants.{Done, Refused}
 use Rattle.basics.specs.declared.Refusal.{Refusal}
 use Rattle.basics.specs.declared.Refusal.TheVariants.{Reading, NoRun}
-use Rattle.basics.specs.Outcome.{Meets}
+use Rattle.basics.specs.Outcome.{Answer, Done, Refused, Meets}
 use Rattle.basics.specs.SetBits.{Bytes}
 use Rattle.hours.specs.Means.{absent}
 use Rattle.hours.specs.Packing.{valid}

@@ -1,9 +1,8 @@
 -- The starred cases of document 01 in one table: of the definitions, of the hours, of the sheet, and of calls of the operations.
 use Rattle.std.specs.Prelude.{ℕ, ◌≡◌, true, List, [], ◌∷◌, pos, length}
-use Rattle.basics.specs.declared.Answer.TheVariants.{Done, Refused}
 use Rattle.basics.specs.declared.Refusal.TheVariants.{Singular, Dependent, NoCodeword}
 use Rattle.basics.specs.Lists.{written}
-use Rattle.basics.specs.Outcome.{Outcome, refused, accepted, counted}
+use Rattle.basics.specs.Outcome.{Done, Refused, Outcome, refused, accepted, counted}
 use Rattle.field.specs.Galois.{IsField}
 use Rattle.elliptic.specs.declared.Curve.{Curve}
 use Rattle.codewords.specs.Code.{Code, code_answer}

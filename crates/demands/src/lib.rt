@@ -1,13 +1,13 @@
 // What a customer signs against: three demands over the calls of all operations, in specs/, each with one theorem in proofs/.
 #![tactic(auto)]
 
+ghost use Rattle.basics.specs.Outcome.{Done, answer_of};
 ghost use Rattle.std.specs.Prelude.{◌≡◌};
-ghost use Rattle.basics.specs.declared.Answer.TheVariants.{Done};
 ghost use Rattle.codewords.specs.Code.{code_of, code_answer};
 ghost use Rattle.demands.specs.Call.{call};
 ghost use Rattle.demands.specs.Demand3.{WordClause};
 
-use basics::Answer;
+use basics::Refusal;
 use coder::systematic_word::systematic_word;
 use codewords::Parameters;
 
@@ -20,10 +20,10 @@ pub fn demanded_word(
     symbols: &[u8],
     out: &mut [u8],
     work: &mut [u8],
-) -> Answer
+) -> Result<(), Refusal>
     ensures { code_answer (code_of code xs.now ys.now) ≡ Done
         → WordClause (code_of code xs.now ys.now) places.now symbols.now
-        (call result out.old work.old out.new work.new) }
+        (call (answer_of result) out.old work.old out.new work.new) }
 {
     systematic_word(code, xs, ys, places, symbols, out, work)
 }

@@ -1,17 +1,16 @@
 // A system of equations in echelon form: the equation that leads with coefficient c, if there is one, is row c, and its entry c is 1.
 // Its entries are the coefficients' factors and, last, the symbol. Rows stand at a fixed distance, so that k may be any number up to 288.
-ghost use Rattle.std.specs.Prelude.{◌+◌, ◌<◌, ◌≤◌, length};
-ghost use Rattle.field.specs.Tables.{Tables};
+ghost use Rattle.std.specs.Prelude.{◌<◌, ◌≤◌, length};
 ghost use Rattle.elimination.specs.Sizes.{Room};
 
 use crate::slices::{add_multiple, inner_product, scale};
-use field::inverse;
+use field::Field;
 
-// Where each row starts: 288 factors and a symbol after the one before.
-const WIDTH: usize = 289;
+// Where each row starts after the one before: 288 factors and a symbol.
+pub const WIDTH: usize = 289;
 
 // What an equation adds to those before it.
-#[derive(Clone, Copy)]
+#[derive(Clone, Copy, PartialEq, Eq, Debug)]
 pub enum Added {
     New,
     Implied,
@@ -29,76 +28,55 @@ fn leads(rows: &[u8], c: usize) -> bool
 pub fn clear(rows: &mut [u8], k: usize)
     requires { Room rows.old × (k ≤ 288) }
 {
-    let mut c = 0;
-    while c < k {
+    for c in 0..k {
         rows[c * WIDTH + c] = 0;
-        c += 1;
     }
 }
 
 // The equation loses coefficient c, by the row that leads with it.
-fn reduce(m: u8, powers: &[u8; 1021], logs: &[u16; 512], rows: &[u8], c: usize, equation: &mut [u8])
-    requires tables { Tables m powers.now logs.now }
+fn reduce(field: &Field, rows: &[u8], c: usize, equation: &mut [u8])
     requires room { Room rows.now × (c < 288) × (c < length equation.old) × (length equation.old ≤ 289) }
 {
     let t = equation[c];
     let start = c * WIDTH;
     let end = start + equation.len();
-    add_multiple(m, powers, logs, t, &rows[start..end], equation);
+    add_multiple(field, t, &rows[start..end], equation);
 }
 
 // The equation becomes row c.
-fn store(m: u8, powers: &[u8; 1021], logs: &[u16; 512], rows: &mut [u8], c: usize, equation: &[u8])
-    requires tables { Tables m powers.now logs.now }
+fn store(field: &Field, rows: &mut [u8], c: usize, equation: &[u8])
     requires room { Room rows.old × (c < 288) × (c < length equation.now) × (length equation.now ≤ 289) }
 {
-    let t = inverse(m, powers, logs, equation[c]);
+    let t = field.inverse(equation[c]);
     let start = c * WIDTH;
     let end = start + equation.len();
-    scale(m, powers, logs, t, equation, &mut rows[start..end]);
+    scale(field, t, equation, &mut rows[start..end]);
 }
 
 // Whether the equation leads with coefficient c and no other did: then it becomes row c. Else it loses the coefficient.
-fn takes_row(
-    m: u8,
-    powers: &[u8; 1021],
-    logs: &[u16; 512],
-    rows: &mut [u8],
-    c: usize,
-    equation: &mut [u8],
-) -> bool
-    requires tables { Tables m powers.now logs.now }
+fn takes_row(field: &Field, rows: &mut [u8], c: usize, equation: &mut [u8]) -> bool
     requires room { Room rows.old × (c < 288) × (c < length equation.old) × (length equation.old ≤ 289) }
 {
     if equation[c] == 0 {
         return false;
     }
     if leads(rows, c) {
-        reduce(m, powers, logs, rows, c, equation);
+        reduce(field, rows, c, equation);
         return false;
     }
-    store(m, powers, logs, rows, c, equation);
+    store(field, rows, c, equation);
     true
 }
 
 // Adds an equation, in its row where it is new; it is used up by this.
-pub fn add_equation(
-    m: u8,
-    powers: &[u8; 1021],
-    logs: &[u16; 512],
-    rows: &mut [u8],
-    equation: &mut [u8],
-) -> Added
-    requires tables { Tables m powers.now logs.now }
+pub fn add_equation(field: &Field, rows: &mut [u8], equation: &mut [u8]) -> Added
     requires room { Room rows.old × (1 ≤ length equation.old) × (length equation.old ≤ 289) }
 {
     let k = equation.len() - 1;
-    let mut c = 0;
-    while c < k {
-        if takes_row(m, powers, logs, rows, c, equation) {
+    for c in 0..k {
+        if takes_row(field, rows, c, equation) {
             return Added::New;
         }
-        c += 1;
     }
     if equation[k] == 0 {
         return Added::Implied;
@@ -108,16 +86,7 @@ pub fn add_equation(
 
 // Coefficient c by row c, where those after it are known; those before it have the factor 0, and its own is 1. A free one is 1.
 // With `right` false every symbol is taken for 0.
-fn coefficient(
-    m: u8,
-    powers: &[u8; 1021],
-    logs: &[u16; 512],
-    rows: &[u8],
-    right: bool,
-    c: usize,
-    function: &[u8],
-) -> u8
-    requires tables { Tables m powers.now logs.now }
+fn coefficient(field: &Field, rows: &[u8], right: bool, c: usize, function: &[u8]) -> u8
     requires room { Room rows.now × (c < length function.now) × (length function.now ≤ 288) }
 {
     if !leads(rows, c) {
@@ -125,26 +94,15 @@ fn coefficient(
     }
     let start = c * WIDTH;
     let end = start + function.len();
-    let sum = function[c] ^ inner_product(m, powers, logs, &rows[start..end], function);
+    let sum = function[c] ^ inner_product(field, &rows[start..end], function);
     if right { sum ^ rows[end] } else { sum }
 }
 
 // The coefficients from the last to the first: the one solution if there is one and no more.
-pub fn solve(
-    m: u8,
-    powers: &[u8; 1021],
-    logs: &[u16; 512],
-    rows: &[u8],
-    right: bool,
-    function: &mut [u8],
-)
-    requires tables { Tables m powers.now logs.now }
+pub fn solve(field: &Field, rows: &[u8], right: bool, function: &mut [u8])
     requires room { Room rows.now × (length function.old ≤ 288) }
 {
-    let mut c = function.len();
-    while c > 0 {
-        c -= 1;
-        let v = coefficient(m, powers, logs, rows, right, c, function);
-        function[c] = v;
+    for c in (0..function.len()).rev() {
+        function[c] = coefficient(field, rows, right, c, function);
     }
 }

@@ -5,7 +5,7 @@ use mathlib.Core.List.{List}
 use Rattle.field.specs.Sum.{◌⊕◌}
 use Rattle.field.proofs.Sum.{⊕_self, ⊕_eq}
 use Rattle.field.specs.Field.{Arithmetic, Field}
-use Rattle.field.proofs.Field.{ring, no_zero_div, ·-⊕, ·_zero}
+use Rattle.field.proofs.Laws.{ring, no_zero_div, ·-⊕, ·_zero}
 use Rattle.elliptic.specs.Curve.{Curve, Point, left, right}
 use Rattle.elliptic.proofs.Points.{On, Differ, All, All.nil, All.cons, Away}
 

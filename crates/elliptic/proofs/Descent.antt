@@ -10,7 +10,7 @@ use lib.ListN.{length}
 use Rattle.field.specs.Sum.{◌⊕◌}
 use Rattle.field.proofs.Sum.{⊕_self, ⊕_eq}
 use Rattle.field.specs.Field.{Arithmetic, Field}
-use Rattle.field.proofs.Field.{no_zero_div}
+use Rattle.field.proofs.Laws.{no_zero_div}
 use Rattle.elliptic.specs.Functions.{weight}
 use Rattle.elliptic.specs.Curve.{Curve, Point, point}
 use Rattle.elliptic.specs.Pair.{add_scaled}

@@ -7,7 +7,7 @@ use lib.ListN.{length}
 use Rattle.field.specs.Sum.{◌⊕◌}
 use Rattle.field.proofs.Sum.{zero_⊕}
 use Rattle.field.specs.Field.{Arithmetic, Field}
-use Rattle.field.proofs.Field.{ring, zero_lt, inv_cancel}
+use Rattle.field.proofs.Laws.{ring, zero_lt, inv_cancel}
 use Rattle.elliptic.specs.Curve.{Point, point}
 use Rattle.elliptic.specs.Pair.{horner, evaluate, add_scaled}
 

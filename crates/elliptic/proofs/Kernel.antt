@@ -8,7 +8,7 @@ use lib.ListN.{length}
 use Rattle.field.specs.Sum.{◌⊕◌}
 use Rattle.field.proofs.Sum.{⊕_self, ⊕_eq}
 use Rattle.field.specs.Field.{Arithmetic, Field}
-use Rattle.field.proofs.Field.{ring, mul_one}
+use Rattle.field.proofs.Laws.{ring, mul_one}
 use Rattle.elliptic.specs.Curve.{Curve, Point}
 use Rattle.elliptic.specs.Functions.{weight}
 use Rattle.elliptic.specs.Pair.{evaluate, add_scaled}

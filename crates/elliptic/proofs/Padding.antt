@@ -9,7 +9,7 @@ use native.Mathlib.Decide.{ℕ_discrete}
 use lib.ListN.{length, replicate, length-append, length-replicate}
 use Rattle.field.specs.Sum.{◌⊕◌}
 use Rattle.field.specs.Field.{Arithmetic, Field}
-use Rattle.field.proofs.Field.{ring, zero_lt}
+use Rattle.field.proofs.Laws.{ring, zero_lt}
 use Rattle.elliptic.specs.Curve.{Point}
 use Rattle.elliptic.specs.Pair.{padded, horner, evaluate}
 use Rattle.elliptic.proofs.Points.{All, All.nil, All.cons}

@@ -11,7 +11,7 @@ use borrow.Author.Tests.{lt-ltb, le-ltb}
 use Rattle.field.specs.Sum.{◌⊕◌}
 use Rattle.field.proofs.Sum.{⊕_self}
 use Rattle.field.specs.Field.{Arithmetic, Field}
-use Rattle.field.proofs.Field.{ring, zero_lt, ·_zero}
+use Rattle.field.proofs.Laws.{ring, zero_lt, ·_zero}
 use Rattle.elliptic.specs.Curve.{Point, point}
 use Rattle.elliptic.specs.Functions.{weight}
 use Rattle.elliptic.specs.Pair.{evaluate, raised, State, held, start, corrected, cancelled, stepped, kept}

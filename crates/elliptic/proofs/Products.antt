@@ -9,7 +9,7 @@ use borrow.Author.Tests.{ne_eqb}
 use Rattle.field.specs.Sum.{◌⊕◌}
 use Rattle.field.proofs.Sum.{zero_⊕}
 use Rattle.field.specs.Field.{Arithmetic, Field}
-use Rattle.field.proofs.Field.{ring, zero_lt, mul_one, ·_zero}
+use Rattle.field.proofs.Laws.{ring, zero_lt, mul_one, ·_zero}
 use Rattle.elliptic.specs.Functions.{weight}
 use Rattle.elliptic.specs.Curve.{Curve, Point, left, right}
 use Rattle.elliptic.specs.Pair.{horner, evaluate, add_scaled, growth, shifted, times_linear, raised}

@@ -6,7 +6,7 @@ use native.Mathlib.Omega.{arith}
 use Rattle.field.specs.Sum.{◌⊕◌}
 use Rattle.field.proofs.Sum.{⊕_eq}
 use Rattle.field.specs.Field.{Arithmetic, Field}
-use Rattle.field.proofs.Field.{ring, no_zero_div}
+use Rattle.field.proofs.Laws.{ring, no_zero_div}
 use Rattle.elliptic.specs.Functions.{weight}
 use Rattle.elliptic.specs.Curve.{Point, point}
 use Rattle.elliptic.specs.Pair.{horner, evaluate}

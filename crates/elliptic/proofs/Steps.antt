@@ -9,7 +9,7 @@ use lib.ListN.{length, get_or, take}
 use lib.Seq.{length-take-le}
 use borrow.Author.Tests.{eq-eqb, ne_eqb}
 use Rattle.field.specs.Field.{Arithmetic, Field}
-use Rattle.field.proofs.Field.{zero_lt}
+use Rattle.field.proofs.Laws.{zero_lt}
 use Rattle.elliptic.specs.Curve.{Curve, Point, point}
 use Rattle.elliptic.specs.Functions.{weight}
 use Rattle.elliptic.specs.Pair.{State, evaluate, stepped, kept, step, after}

@@ -11,7 +11,7 @@ use borrow.Author.Tests.{eqb-true, eq-eqb, ne_eqb}
 use Rattle.field.specs.Sum.{◌⊕◌}
 use Rattle.field.proofs.Sum.{⊕_assoc}
 use Rattle.field.specs.Field.{Arithmetic, Field}
-use Rattle.field.proofs.Field.{ring, mul_one}
+use Rattle.field.proofs.Laws.{ring, mul_one}
 use Rattle.elliptic.specs.Curve.{Point}
 use Rattle.elliptic.specs.Functions.{weight, nonzero, leading, degree_from, degree, monomial, sum_from, value}
 use Rattle.elliptic.specs.Pair.{horner, evaluate}

@@ -5,7 +5,7 @@ use mathlib.Core.List.{List}
 use native.Mathlib.Omega.{arith}
 use lib.ListN.{length}
 use Rattle.field.specs.Field.{Arithmetic, Field}
-use Rattle.field.proofs.Field.{·_zero}
+use Rattle.field.proofs.Laws.{·_zero}
 use Rattle.elliptic.specs.Functions.{weight}
 use Rattle.elliptic.specs.Curve.{Curve, Point}
 use Rattle.elliptic.proofs.Points.{Points, all_zip}

@@ -1,7 +1,7 @@
 -- What a step makes of the arrays: the pair in either order, and the state that they hold.
 use Prim.Native.Nat.{ℕ, zero, suc, ◌≤◌}
 use mathlib.Core.Path.{◌≡◌, refl, sym, ◌∙◌, ap}
-use mathlib.Core.Bool.{Bool, true, false, not, cond}
+use mathlib.Core.Bool.{Bool, true, false, cond}
 use mathlib.Core.List.{List, [], ◌∷◌}
 use native.Mathlib.Nat.{not-suc-le-zero, le_of_suc-le-suc}
 use native.Mathlib.Omega.{arith}
@@ -64,30 +64,6 @@ after_pair F points symbols symbols' (suc i) = step_same F _ _ _ (after_pair F p
 
 pub pair_as : {a b : List ℕ} {n : Sizes} {s t : State} → SamePair s t → Pair a b n s → Pair a b n t
 pair_as e p = record { low = holds_as p.low e.low; high = holds_as p.high e.high }
-
--- the arrays the other way round
-pub turned_round : {a b : List ℕ} {n k : Sizes} {s : State} → (k.low ≡ n.low) × (k.high ≡ n.high) × (k.turned ≡ not n.turned) → Pair b a n s → Pair a b k s
-turned_round {a} {b} {n} {k} {s} e p = record { low = rw (e.0, e.2) (go n.turned p.low p.high).0; high = rw (e.1, e.2) (go n.turned p.low p.high).1 }
-  where
-    go : (t : Bool) → Holds (cond t a b) n.low s.low → Holds (cond t b a) n.high s.high
-        → Holds (cond (not t) b a) n.low s.low × Holds (cond (not t) a b) n.high s.high
-    go true l u = (l, u)
-    go false l u = (l, u)
-
-pub filled_round : {a b f : List ℕ} {n : Lengths} {k : Sizes} {s : State} → (k.low ≡ n.pair.low) × (k.high ≡ n.pair.high) × (k.turned ≡ not n.pair.turned)
-    → Filled b a f n s → Filled a b f (record { pair = k; word = n.word }) s
-filled_round e p = record { pair = turned_round e p.pair; word = p.word }
-
-pub swap_room : {a b : List ℕ} {n : Sizes} → Room a b n → Room b a n
-swap_room r =
-    record {
-      some_low = r.some_low;
-      some_high = r.some_high;
-      low_room = r.low_room;
-      high_room = r.high_room;
-      long_first = r.long_second;
-      long_second = r.long_first;
-    }
 
 -- two functions, the shorter as L
 pair_held : (t : Bool) {a b l u : List ℕ} {j k : ℕ} (w : List ℕ) (n : Sizes) → n.turned ≡ t → n.low ≡ cond t k j → n.high ≡ cond t j k

@@ -3,13 +3,12 @@
 ghost use Rattle.std.specs.Prelude.{◌≡◌, [], ◌++◌, not, false, ◌+◌, ◌-◌, ◌^◌, ◌<◌, ◌≤◌, length, take, replicate};
 ghost use Rattle.basics.specs.Lists.{Holds};
 ghost use Rattle.field.specs.Galois.{galois};
-ghost use Rattle.field.specs.Tables.{Tables};
 ghost use Rattle.elliptic.specs.Pair.{growth, evaluate, add_scaled, raised, held, corrected, stepped, step};
 ghost use Rattle.engine.specs.Arrays.{Pair, Filled, Room, WordRoom, Ordered, pair_in, state_in};
 
 use crate::slices::{add_scaled, clear, times_linear, value};
 use elliptic::Point;
-use field::quotient;
+use field::Field;
 
 // How many coefficients L and U have. They stand in two arrays: L in the first, or in the second where they have turned.
 #[derive(Clone, Copy)]
@@ -54,80 +53,49 @@ pub fn extend(f: &mut [u8], n: usize, m: usize)
 }
 
 // The first n coefficients of f become (X + α) times as much; how many there are then.
-fn raise(m: u8, powers: &[u8; 1021], logs: &[u16; 512], alpha: u8, f: &mut [u8], n: usize) -> usize
-    requires tables { Tables m powers.now logs.now }
+fn raise(field: &Field, alpha: u8, f: &mut [u8], n: usize) -> usize
     requires n_nonzero { (0 < n) × (n + 2 ≤ length f.old) }
-    ensures { Holds f.new result (raised (galois m) alpha (take n f.old)) }
+    ensures { Holds f.new result (raised (galois field.now.number) alpha (take n f.old)) }
 {
     let k = grown(n);
     extend(f, n, k);
-    times_linear(m, powers, logs, alpha, &mut f[..k]);
+    times_linear(field, alpha, &mut f[..k]);
     k
 }
 
 // The first n coefficients of f gain t·h; how many there are then.
-fn gain(
-    m: u8,
-    powers: &[u8; 1021],
-    logs: &[u16; 512],
-    t: u8,
-    h: &[u8],
-    f: &mut [u8],
-    n: usize,
-) -> usize
-    requires tables { Tables m powers.now logs.now }
+fn gain(field: &Field, t: u8, h: &[u8], f: &mut [u8], n: usize) -> usize
     requires n_in_bounds { (n ≤ length f.old) × (length h.now ≤ length f.old) }
-    ensures { Holds f.new result (add_scaled (galois m) t h.now (take n f.old)) }
+    ensures { Holds f.new result (add_scaled (galois field.now.number) t h.now (take n f.old)) }
 {
     let k = h.len();
     if n < k {
         extend(f, n, k);
-        add_scaled(m, powers, logs, t, h, &mut f[..k]);
+        add_scaled(field, t, h, &mut f[..k]);
         return k;
     }
-    add_scaled(m, powers, logs, t, h, &mut f[..n]);
+    add_scaled(field, t, h, &mut f[..n]);
     n
 }
 
 // F, the first n coefficients of f, gains the multiple of g that makes its value at p v; how many coefficients it has then.
 // The value of g at p is `at`.
-fn correct(
-    m: u8,
-    powers: &[u8; 1021],
-    logs: &[u16; 512],
-    p: Point,
-    v: u8,
-    at: u8,
-    g: &[u8],
-    f: &mut [u8],
-    n: usize,
-) -> usize
-    requires tables { Tables m powers.now logs.now }
-    requires n_in_bounds { (n ≤ length f.old) × (length g.now ≤ length f.old) × (at ≡ evaluate (galois m) g.now p) }
-    ensures { Holds f.new result (corrected (galois m) p v g.now (take n f.old)) }
+fn correct(field: &Field, p: Point, v: u8, at: u8, g: &[u8], f: &mut [u8], n: usize) -> usize
+    requires n_in_bounds { (n ≤ length f.old) × (length g.now ≤ length f.old) × (at ≡ evaluate (galois field.now.number) g.now p) }
+    ensures { Holds f.new result (corrected (galois field.now.number) p v g.now (take n f.old)) }
 {
-    let missing = v ^ value(m, powers, logs, p.x, p.y, &f[..n]);
-    let t = quotient(m, powers, logs, missing, at);
-    gain(m, powers, logs, t, g, f, n)
+    let missing = v ^ value(field, p.x, p.y, &f[..n]);
+    let t = field.quotient(missing, at);
+    gain(field, t, g, f, n)
 }
 
 // The same where the value of g is not known yet.
-pub fn complete(
-    m: u8,
-    powers: &[u8; 1021],
-    logs: &[u16; 512],
-    p: Point,
-    v: u8,
-    g: &[u8],
-    f: &mut [u8],
-    n: usize,
-) -> usize
-    requires tables { Tables m powers.now logs.now }
+pub fn complete(field: &Field, p: Point, v: u8, g: &[u8], f: &mut [u8], n: usize) -> usize
     requires n_in_bounds { (n ≤ length f.old) × (length g.now ≤ length f.old) }
-    ensures { Holds f.new result (corrected (galois m) p v g.now (take n f.old)) }
+    ensures { Holds f.new result (corrected (galois field.now.number) p v g.now (take n f.old)) }
 {
-    let at = value(m, powers, logs, p.x, p.y, g);
-    correct(m, powers, logs, p, v, at, g, f, n)
+    let at = value(field, p.x, p.y, g);
+    correct(field, p, v, at, g, f, n)
 }
 
 // The shorter of two functions as L; the first stands in the first array.
@@ -160,84 +128,54 @@ pub fn swapped(n: Sizes) -> Sizes
 }
 
 // One more place p, where the value of L is `at`, which is not zero. L is in l and U in u.
-fn advance(
-    m: u8,
-    powers: &[u8; 1021],
-    logs: &[u16; 512],
-    p: Point,
-    at: u8,
-    l: &mut [u8],
-    u: &mut [u8],
-    n: Sizes,
-) -> Sizes
-    requires tables { Tables m powers.now logs.now }
-    requires room { Room l.old u.old n × (at ≡ evaluate (galois m) (take n.low l.old) p) }
+fn advance(field: &Field, p: Point, at: u8, l: &mut [u8], u: &mut [u8], n: Sizes) -> Sizes
+    requires room { Room l.old u.old n × (at ≡ evaluate (galois field.now.number) (take n.low l.old) p) }
     ensures { Pair l.new u.new result
-        (stepped (galois m) p 0 (held false (take n.low l.old) (take n.high u.old) [])) }
+        (stepped (galois field.now.number) p 0 (held false (take n.low l.old) (take n.high u.old) [])) }
 {
     let low = n.low;
     let high = n.high;
-    let at_u = value(m, powers, logs, p.x, p.y, &u[..high]);
-    let t = quotient(m, powers, logs, at_u, at);
-    let second = gain(m, powers, logs, t, &l[..low], u, high);
-    let first = raise(m, powers, logs, p.x, l, low);
+    let at_u = value(field, p.x, p.y, &u[..high]);
+    let t = field.quotient(at_u, at);
+    let second = gain(field, t, &l[..low], u, high);
+    let first = raise(field, p.x, l, low);
     ordered(first, second)
 }
 
 // One more place p, with L in l and U in u.
-fn pair_step(
-    m: u8,
-    powers: &[u8; 1021],
-    logs: &[u16; 512],
-    p: Point,
-    l: &mut [u8],
-    u: &mut [u8],
-    n: Sizes,
-) -> Sizes
-    requires tables { Tables m powers.now logs.now }
+fn pair_step(field: &Field, p: Point, l: &mut [u8], u: &mut [u8], n: Sizes) -> Sizes
     requires room { Room l.old u.old n }
     ensures { Pair l.new u.new result
-        (step (galois m) p 0 (held false (take n.low l.old) (take n.high u.old) [])) }
+        (step (galois field.now.number) p 0 (held false (take n.low l.old) (take n.high u.old) [])) }
 {
     let low = n.low;
-    let at = value(m, powers, logs, p.x, p.y, &l[..low]);
+    let at = value(field, p.x, p.y, &l[..low]);
     if at == 0 {
-        let high = raise(m, powers, logs, p.x, u, n.high);
+        let high = raise(field, p.x, u, n.high);
         return Sizes {
             low,
             high,
             turned: false,
         };
     }
-    advance(m, powers, logs, p, at, l, u, n)
+    advance(field, p, at, l, u, n)
 }
 
 // The same, with L and U in either array.
-pub fn pair_turn(
-    m: u8,
-    powers: &[u8; 1021],
-    logs: &[u16; 512],
-    p: Point,
-    l: &mut [u8],
-    u: &mut [u8],
-    n: Sizes,
-) -> Sizes
-    requires tables { Tables m powers.now logs.now }
+pub fn pair_turn(field: &Field, p: Point, l: &mut [u8], u: &mut [u8], n: Sizes) -> Sizes
     requires room { Room l.old u.old n }
-    ensures { Pair l.new u.new result (step (galois m) p 0 (pair_in l.old u.old n)) }
+    ensures { Pair l.new u.new result (step (galois field.now.number) p 0 (pair_in l.old u.old n)) }
 {
     let turned = n.turned;
     if turned {
-        return swapped(pair_step(m, powers, logs, p, u, l, n));
+        return swapped(pair_step(field, p, u, l, n));
     }
-    pair_step(m, powers, logs, p, l, u, n)
+    pair_step(field, p, l, u, n)
 }
 
 // One more place p, where F, in f, is to be v, with L in l and U in u.
 fn step(
-    m: u8,
-    powers: &[u8; 1021],
-    logs: &[u16; 512],
+    field: &Field,
     p: Point,
     v: u8,
     l: &mut [u8],
@@ -245,17 +183,16 @@ fn step(
     f: &mut [u8],
     n: Lengths,
 ) -> Lengths
-    requires tables { Tables m powers.now logs.now }
     requires room { Room l.old u.old n.pair × WordRoom f.old n }
     ensures { Filled l.new u.new f.new result
-        (step (galois m) p v (held false (take n.pair.low l.old) (take n.pair.high u.old) (take n.word f.old))) }
+        (step (galois field.now.number) p v (held false (take n.pair.low l.old) (take n.pair.high u.old) (take n.word f.old))) }
 {
     let low = n.pair.low;
     let high = n.pair.high;
-    let at_l = value(m, powers, logs, p.x, p.y, &l[..low]);
+    let at_l = value(field, p.x, p.y, &l[..low]);
     if at_l == 0 {
-        let word = complete(m, powers, logs, p, v, &u[..high], f, n.word);
-        let raised = raise(m, powers, logs, p.x, u, high);
+        let word = complete(field, p, v, &u[..high], f, n.word);
+        let raised = raise(field, p.x, u, high);
         return Lengths {
             pair: Sizes {
                 low,
@@ -265,16 +202,14 @@ fn step(
             word,
         };
     }
-    let word = correct(m, powers, logs, p, v, at_l, &l[..low], f, n.word);
-    let pair = advance(m, powers, logs, p, at_l, l, u, n.pair);
+    let word = correct(field, p, v, at_l, &l[..low], f, n.word);
+    let pair = advance(field, p, at_l, l, u, n.pair);
     Lengths { pair, word }
 }
 
 // The same, with L and U in either array.
 pub fn turn(
-    m: u8,
-    powers: &[u8; 1021],
-    logs: &[u16; 512],
+    field: &Field,
     p: Point,
     v: u8,
     l: &mut [u8],
@@ -282,18 +217,17 @@ pub fn turn(
     f: &mut [u8],
     n: Lengths,
 ) -> Lengths
-    requires tables { Tables m powers.now logs.now }
     requires room { Room l.old u.old n.pair × WordRoom f.old n }
     ensures { Filled l.new u.new f.new result
-        (step (galois m) p v (state_in l.old u.old f.old n)) }
+        (step (galois field.now.number) p v (state_in l.old u.old f.old n)) }
 {
     let turned = n.pair.turned;
     if turned {
-        let r = step(m, powers, logs, p, v, u, l, f, n);
+        let r = step(field, p, v, u, l, f, n);
         return Lengths {
             pair: swapped(r.pair),
             word: r.word,
         };
     }
-    step(m, powers, logs, p, v, l, u, f, n)
+    step(field, p, v, l, u, f, n)
 }

@@ -11,7 +11,7 @@ pub fn index_of(place: Place) -> usize
     requires { 1 ≤ place.0 }
     ensures { result ≡ place.0 - 1 }
 {
-    place.0 as usize - 1
+    usize::from(place.0) - 1
 }
 
 // The point at a place.
@@ -47,10 +47,8 @@ pub fn gather(places: &[u16], from: &[u8], out: &mut [u8])
     requires { Chosen (length from.now) places.now (length out.old) }
     ensures { out.new ≡ table (coordinate_at from.now places.now) (length out.old) }
 {
-    let mut i = 0;
-    while i < out.len() {
+    for i in 0..out.len() {
         let place = chosen_place(places, MessageIndex(i));
         out[i] = from[index_of(place)];
-        i += 1;
     }
 }

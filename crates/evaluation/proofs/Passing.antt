@@ -62,25 +62,12 @@ module _ {m : ℕ} {f : List ℕ} where
   own : {i x : ℕ} {l : Lane} → At m f i x l → At m f i l.x l
   own {i} {x} {l} h = subst (λ (z : ℕ). At m f i z l) (sym h.is_x) h
 
-  -- so are four at the coordinates of o
-  pub own_four : {i : ℕ} {o g : Four} → AtFour m f i o g → AtFour m f i g g
-  own_four h = record { first = own h.first; second = own h.second; third = own h.third; fourth = own h.fourth }
-
   pub begun_four : {i j : ℕ} {xs : List ℕ} {g : Four} → At m f i (get_or xs j 0) g.a → At m f i (get_or xs (j + 1) 0) g.b
       → At m f i (get_or xs (j + 2) 0) g.c → At m f i (get_or xs (j + 3) 0) g.d → AtFour m f i g g × Taken xs j g
   begun_four h k l n = (
     record { first = own h; second = own k; third = own l; fourth = own n },
     record { first = h.is_x; second = k.is_x; third = l.is_x; fourth = n.is_x },
   )
-
-  pub taken_on : {i j : ℕ} {xs : List ℕ} {o g : Four} → AtFour m f i o g → Taken xs j o → Taken xs j g
-  taken_on h t =
-      record {
-        first = h.first.is_x ∙ t.first;
-        second = h.second.is_x ∙ t.second;
-        third = h.third.is_x ∙ t.third;
-        fourth = h.fourth.is_x ∙ t.fourth;
-      }
 
   pub stored_four : {g : Four} {a₀ b₀ a₁ b₁ a₂ b₂ a₃ b₃ a₄ b₄ : List ℕ} → Stored m f a₀ b₀ a₁ b₁ g.a.x → Stored m f a₁ b₁ a₂ b₂ g.b.x
       → Stored m f a₂ b₂ a₃ b₃ g.c.x → Stored m f a₃ b₃ a₄ b₄ g.d.x → StoredFour m f a₀ b₀ a₄ b₄ g

@@ -4,9 +4,10 @@ mod Horner
 mod Polynomial
 pub mod Ring
 mod Remainders
-pub mod Field
+pub mod Laws
 mod Generator
 pub mod Computed
 pub mod Galois
 pub mod Lookup
 mod Pastes
+pub mod Opened

@@ -5,10 +5,11 @@
 // The field number goes with the tables for the contracts' sake.
 #![tactic(auto)]
 
-ghost use Rattle.std.specs.Prelude.{◌≡◌, ◌+◌, ◌-◌, ◌≤◌, length, get_or};
+ghost use Rattle.basics.specs.declared.Refusal.TheVariants.{FieldNumber};
+ghost use Rattle.std.specs.Prelude.{false, IfOk, IfErr, ◌≡◌, ◌+◌, ◌-◌, ◌≤◌, length, get_or};
 ghost use Rattle.std.proofs.Math.Seq.{paste};
 ghost use Rattle.basics.specs.Lists.{table};
-ghost use Rattle.basics.specs.Outcome.{Meets};
+ghost use Rattle.basics.specs.Outcome.{Meets, answer_of};
 ghost use Rattle.field.specs.Sum.{◌⊕◌};
 ghost use Rattle.field.specs.Galois.{IsField, is_field, modulus, width, size, product, inverse};
 ghost use Rattle.field.specs.Tables.{power_table, byte_log_table, log_table, neg_log_table, exp_table, log_tables, none, no_byte, widened, negated, Tables, logarithm, neg_logarithm, IsLog, product_by_log};
@@ -16,8 +17,7 @@ ghost use Rattle.field.specs.Products.{product_at, products_outcome};
 
 mod tables;
 
-use basics::byte::wide;
-use basics::{Answer, Refusal, short};
+use basics::Refusal;
 use tables::{
     LOGARITHMS_2_3, LOGARITHMS_4_5, LOGARITHMS_6_7, LOGARITHMS_9_8, MODULI, POWERS_2_3, POWERS_4_5,
     POWERS_6_7, POWERS_9_8, WIDTHS,
@@ -38,7 +38,7 @@ pub fn modulus(m: u8) -> u16
     requires { IsField m }
     ensures { result ≡ modulus m }
 {
-    MODULI[wide(m)]
+    MODULI[usize::from(m)]
 }
 
 // The number of bits of a symbol.
@@ -46,7 +46,7 @@ pub fn width(m: u8) -> u8
     requires { IsField m }
     ensures { result ≡ width m }
 {
-    WIDTHS[wide(m)]
+    WIDTHS[usize::from(m)]
 }
 
 // The order of the generator.
@@ -71,7 +71,7 @@ fn power_row(m: u8) -> [u8; 255]
     requires { IsField m }
     ensures { result ≡ power_table m }
 {
-    let half = wide(m % 2);
+    let half = usize::from(m % 2);
     match m / 2 {
         1 => POWERS_2_3[half],
         2 => POWERS_4_5[half],
@@ -85,7 +85,7 @@ fn log_row(m: u8) -> [u8; 256]
     requires { IsField m }
     ensures { result ≡ byte_log_table m }
 {
-    let half = wide(m % 2);
+    let half = usize::from(m % 2);
     match m / 2 {
         1 => LOGARITHMS_2_3[half],
         2 => LOGARITHMS_4_5[half],
@@ -99,10 +99,8 @@ fn put_powers(row: &[u8; 255], at: usize, out: &mut [u8; 1021])
     requires { (length row.now ≡ 255) × (length out.old ≡ 1021) × (at ≤ 255) }
     ensures { out.new ≡ paste out.old at row.now 255 }
 {
-    let mut i = 0;
-    while i < 255 {
+    for i in 0..255 {
         out[at + i] = row[i];
-        i += 1;
     }
 }
 
@@ -122,7 +120,7 @@ pub fn powers(m: u8) -> [u8; 1021]
 fn widened(l: u8) -> u16
     ensures { result ≡ widened l }
 {
-    if l == NO_BYTE { NONE } else { l as u16 }
+    if l == NO_BYTE { NONE } else { u16::from(l) }
 }
 
 // The logarithm of the inverse, where l is an element's in the row.
@@ -133,17 +131,15 @@ fn negated(period: u16, l: u8) -> u16
     if l == NO_BYTE {
         return NONE;
     }
-    period - l as u16
+    period - u16::from(l)
 }
 
 fn put_logs(m: u8, row: &[u8; 256], out: &mut [u16; 512])
     requires { IsField m × (row.now ≡ byte_log_table m) × (length out.old ≡ 512) }
     ensures { out.new ≡ paste out.old 0 (log_table m) 256 }
 {
-    let mut i = 0;
-    while i < 256 {
+    for i in 0..256 {
         out[i] = widened(row[i]);
-        i += 1;
     }
 }
 
@@ -152,10 +148,8 @@ fn put_neg_logs(m: u8, row: &[u8; 256], out: &mut [u16; 512])
     ensures { out.new ≡ paste out.old 256 (neg_log_table m) 256 }
 {
     let period = period(m);
-    let mut i = 0;
-    while i < 256 {
+    for i in 0..256 {
         out[256 + i] = negated(period, row[i]);
-        i += 1;
     }
 }
 
@@ -177,94 +171,117 @@ pub fn add(a: u8, b: u8) -> u8
     a ^ b
 }
 
-// The exponent at which the generator is a, or NONE.
-pub fn logarithm(m: u8, logs: &[u16; 512], a: u8) -> u16
-    requires { logs.now ≡ log_tables m }
-    ensures { result ≡ logarithm m a }
-{
-    logs[wide(a)]
+// A field of 4 to 256 elements with the two tables that its products are read from.
+#[derive(Drop)]
+pub struct Field {
+    pub number: u8,
+    pub powers: [u8; 1021],
+    pub logs: [u16; 512],
+    pub ghost tables: { Tables number powers logs },
 }
 
-// The logarithm of the inverse of a, or NONE.
-pub fn neg_logarithm(m: u8, logs: &[u16; 512], a: u8) -> u16
-    requires { logs.now ≡ log_tables m }
-    ensures { result ≡ neg_logarithm m a }
-{
-    logs[256 + wide(a)]
-}
+impl Field {
+    // The field of a number, if there is one.
+    pub fn new(m: u8) -> Result<Field, Refusal>
+        ensures field { IfOk result (λ f. f.number ≡ m) }
+        ensures refused { IfErr result (λ e. (e ≡ FieldNumber) × (is_field m ≡ false)) }
+    {
+        if !is_field(m) {
+            return Err(Refusal::FieldNumber);
+        }
+        Ok(Field {
+            number: m,
+            powers: powers(m),
+            logs: logarithms(m),
+        })
+    }
 
-// The power at the sum of two logarithms.
-fn power(m: u8, powers: &[u8; 1021], l: u16, k: u16) -> u8
-    requires { (powers.now ≡ exp_table m) × (l ≤ none) × (k ≤ none) }
-    ensures { result ≡ get_or (exp_table m) (l + k) 0 }
-{
-    powers[short::wide(l) + short::wide(k)]
-}
+    // The number of elements.
+    pub fn size(&self) -> usize
+        ensures { result ≡ size self.now.number }
+    {
+        size(self.number)
+    }
 
-// The product of the element whose logarithm is l, and b: a loop over b looks the logarithm of a constant factor up once.
-pub fn product_by_log(m: u8, powers: &[u8; 1021], logs: &[u16; 512], l: u16, b: u8) -> u8
-    requires { Tables m powers.now logs.now × IsLog m l }
-    ensures { result ≡ product_by_log m l b }
-{
-    power(m, powers, l, logarithm(m, logs, b))
-}
+    // The number of bits of a symbol.
+    pub fn width(&self) -> u8
+        ensures { result ≡ width self.now.number }
+    {
+        width(self.number)
+    }
 
-pub fn product(m: u8, powers: &[u8; 1021], logs: &[u16; 512], a: u8, b: u8) -> u8
-    requires { Tables m powers.now logs.now }
-    ensures { result ≡ product m a b }
-{
-    power(m, powers, logarithm(m, logs, a), logarithm(m, logs, b))
-}
+    // The exponent at which the generator is a, or NONE.
+    pub fn logarithm(&self, a: u8) -> u16
+        ensures { result ≡ logarithm self.now.number a }
+    {
+        self.logs[usize::from(a)]
+    }
 
-// The inverse of a, and 0 where a is 0.
-pub fn inverse(m: u8, powers: &[u8; 1021], logs: &[u16; 512], a: u8) -> u8
-    requires { Tables m powers.now logs.now }
-    ensures { result ≡ inverse m a }
-{
-    power(m, powers, 0, neg_logarithm(m, logs, a))
-}
+    // The logarithm of the inverse of a, or NONE.
+    pub fn neg_logarithm(&self, a: u8) -> u16
+        ensures { result ≡ neg_logarithm self.now.number a }
+    {
+        self.logs[256 + usize::from(a)]
+    }
 
-// a over b, and 0 where b is 0.
-pub fn quotient(m: u8, powers: &[u8; 1021], logs: &[u16; 512], a: u8, b: u8) -> u8
-    requires { Tables m powers.now logs.now }
-    ensures { result ≡ product m a (inverse m b) }
-{
-    power(m, powers, logarithm(m, logs, a), neg_logarithm(m, logs, b))
+    // The power at the sum of two logarithms.
+    fn power(&self, l: u16, k: u16) -> u8
+        requires { (l ≤ none) × (k ≤ none) }
+        ensures { result ≡ get_or (exp_table self.now.number) (l + k) 0 }
+    {
+        self.powers[usize::from(l) + usize::from(k)]
+    }
+
+    // The product of the element whose logarithm is l, and b: a loop over b looks the logarithm of a constant factor up once.
+    pub fn product_by_log(&self, l: u16, b: u8) -> u8
+        requires { IsLog self.now.number l }
+        ensures { result ≡ product_by_log self.now.number l b }
+    {
+        self.power(l, self.logarithm(b))
+    }
+
+    pub fn product(&self, a: u8, b: u8) -> u8
+        ensures { result ≡ product self.now.number a b }
+    {
+        self.power(self.logarithm(a), self.logarithm(b))
+    }
+
+    // The inverse of a, and 0 where a is 0.
+    pub fn inverse(&self, a: u8) -> u8
+        ensures { result ≡ inverse self.now.number a }
+    {
+        self.power(0, self.neg_logarithm(a))
+    }
+
+    // a over b, and 0 where b is 0.
+    pub fn quotient(&self, a: u8, b: u8) -> u8
+        ensures { result ≡ product self.now.number a (inverse self.now.number b) }
+    {
+        self.power(self.logarithm(a), self.neg_logarithm(b))
+    }
 }
 
 // The products of two lists, element by element.
-pub fn fill_products(
-    m: u8,
-    powers: &[u8; 1021],
-    logs: &[u16; 512],
-    a: &[u8],
-    b: &[u8],
-    out: &mut [u8],
-)
-    requires tables { Tables m powers.now logs.now }
+pub fn fill_products(field: &Field, a: &[u8], b: &[u8], out: &mut [u8])
     requires a_len { (length a.now ≡ length out.old) × (length b.now ≡ length out.old) }
-    ensures { out.new ≡ table (product_at m a.now b.now) (length out.old) }
+    ensures { out.new ≡ table (product_at field.now.number a.now b.now) (length out.old) }
 {
-    let mut i = 0;
-    while i < out.len() {
-        out[i] = product(m, powers, logs, a[i], b[i]);
-        i += 1;
+    for i in 0..out.len() {
+        out[i] = field.product(a[i], b[i]);
     }
 }
 
 // The products of two lists of symbols, element by element: what the field is tried and measured by from outside.
-pub fn products(m: u8, a: &[u8], b: &[u8], out: &mut [u8]) -> Answer
-    ensures { Meets (products_outcome m a.now b.now (length out.old)) result out.old out.new }
+pub fn products(m: u8, a: &[u8], b: &[u8], out: &mut [u8]) -> Result<(), Refusal>
+    ensures { Meets (products_outcome m a.now b.now (length out.old)) (answer_of result) out.old out.new }
 {
-    if !is_field(m) {
-        return Answer::Refused(Refusal::FieldNumber);
-    }
+    let field = Field::new(m)?;
     if a.len() != out.len() {
-        return Answer::Refused(Refusal::Length);
+        return Err(Refusal::Length);
     }
     if b.len() != out.len() {
-        return Answer::Refused(Refusal::Length);
+        return Err(Refusal::Length);
     }
-    fill_products(m, &powers(m), &logarithms(m), a, b, out);
-    Answer::Done
+    fill_products(&field, a, b, out);
+    Ok(())
 }

@@ -3,71 +3,50 @@
 // The file `stdout` beside this folder has what they must be.
 #![tactic(auto)]
 
-ghost use Rattle.std.specs.Prelude.{◌*◌};
-ghost use Rattle.field.specs.Galois.{IsField};
-ghost use Rattle.field.specs.Tables.{Tables};
-
+use basics::{Refusal, number};
+use field::Field;
 use io::print_decimal;
+
 // The standard output.
 const STDOUT: i32 = 1;
 
 // After how many factors g the power is 1 again: at most 255.
-fn order(m: u8, powers: &[u8; 1021], logs: &[u16; 512], g: u8) -> u64
-    requires { Tables m powers.now logs.now }
-{
+fn order(field: &Field, g: u8) -> u64 {
     let mut a = g;
     for n in 1..256 {
         if a == 1 {
             return n;
         }
-        a = field::product(m, powers, logs, a, g);
+        a = field.product(a, g);
     }
     0
 }
 
-// One more where the test holds.
-fn counted(n: u64, test: bool) -> u64 {
-    if test { n % 1000 + 1 } else { n }
-}
-
 // How many elements have an inverse that multiplies to 1.
-fn inverses(m: u8, powers: &[u8; 1021], logs: &[u16; 512]) -> u64
-    requires { Tables m powers.now logs.now }
-{
-    let mut n: u64 = 0;
-    for a in 0..field::size(m) {
-        let x = (a % 256) as u8;
-        let inverse = field::inverse(m, powers, logs, x);
-        n = counted(n, field::product(m, powers, logs, x, inverse) == 1);
-    }
-    n
+fn inverses(field: &Field) -> usize {
+    (0..=u8::MAX)
+        .take(field.size())
+        .filter(|a| field.product(*a, field.inverse(*a)) == 1)
+        .count()
 }
 
 // A checksum with one symbol more.
 fn mixed(sum: u64, symbol: u8) -> u64 {
-    (sum % 65521 * 31 + symbol as u64) % 65521
+    (sum % 65521 * 31 + u64::from(symbol)) % 65521
 }
 
 // The checksum with a row of the product table more.
-fn row_sum(m: u8, powers: &[u8; 1021], logs: &[u16; 512], a: u8, start: u64) -> u64
-    requires { Tables m powers.now logs.now }
-{
-    let mut sum = start;
-    for b in 0..field::size(m) {
-        sum = mixed(sum, field::product(m, powers, logs, a, (b % 256) as u8));
-    }
-    sum
+fn row_sum(field: &Field, a: u8, start: u64) -> u64 {
+    (0..=u8::MAX)
+        .take(field.size())
+        .fold(start, |sum, b| mixed(sum, field.product(a, b)))
 }
 
 // The checksum of the product table.
-fn table_sum(m: u8, powers: &[u8; 1021], logs: &[u16; 512]) -> u64
-    requires { Tables m powers.now logs.now }
-{
-    let mut sum: u64 = 0;
-    for a in 0..field::size(m) {
-        sum = row_sum(m, powers, logs, (a % 256) as u8, sum);
-    }
-    sum
+fn table_sum(field: &Field) -> u64 {
+    (0..=u8::MAX)
+        .take(field.size())
+        .fold(0, |sum, a| row_sum(field, a, sum))
 }
 
 fn show(text: &[u8], n: u64) {
@@ -75,56 +54,42 @@ fn show(text: &[u8], n: u64) {
     print_decimal(STDOUT, n);
 }
 
-fn products(m: u8, powers: &[u8; 1021], logs: &[u16; 512])
-    requires { Tables m powers.now logs.now }
-{
-    show(b", 2*2 ", field::product(m, powers, logs, 2, 2) as u64);
-    show(b", 3*3 ", field::product(m, powers, logs, 3, 3) as u64);
-    show(b", 1/2 ", field::quotient(m, powers, logs, 1, 2) as u64);
-}
-
-fn tables(m: u8, powers: &[u8; 1021], logs: &[u16; 512])
-    requires { Tables m powers.now logs.now }
-{
-    show(b", order of 2 ", order(m, powers, logs, 2));
-    show(b", order of 3 ", order(m, powers, logs, 3));
-    products(m, powers, logs);
-    show(b", inverses ", inverses(m, powers, logs));
-    show(b", table ", table_sum(m, powers, logs));
-}
-
-fn facts(m: u8)
-    requires { IsField m }
-{
-    show(b"field ", m as u64);
-    show(b": modulus ", field::modulus(m) as u64);
-    show(b", size ", field::size(m) as u64);
-    tables(m, &field::powers(m), &field::logarithms(m));
+fn facts(m: u8) -> Result<(), Refusal> {
+    let field = Field::new(m)?;
+    show(b"field ", u64::from(m));
+    show(b": modulus ", u64::from(field::modulus(m)));
+    show(b", size ", field.size() as u64);
+    show(b", order of 2 ", order(&field, 2));
+    show(b", order of 3 ", order(&field, 3));
+    show(b", 2*2 ", u64::from(field.product(2, 2)));
+    show(b", 3*3 ", u64::from(field.product(3, 3)));
+    show(b", 1/2 ", u64::from(field.quotient(1, 2)));
+    show(b", inverses ", inverses(&field) as u64);
+    show(b", table ", table_sum(&field));
     io::write_all(STDOUT, b"\n");
+    Ok(())
 }
 
 // The examples of the standard in which this field is best known (FIPS 197), in hexadecimal: 53·CA = 01, 57·83 = C1, 57·13 = FE.
-fn standard_products() {
-    let powers = field::powers(9);
-    let logs = field::logarithms(9);
-    show(
-        b"field 9: 83*202 ",
-        field::product(9, &powers, &logs, 0x53, 0xCA) as u64,
-    );
-    show(
-        b", 87*131 ",
-        field::product(9, &powers, &logs, 0x57, 0x83) as u64,
-    );
-    show(
-        b", 87*19 ",
-        field::product(9, &powers, &logs, 0x57, 0x13) as u64,
-    );
+fn standard_products() -> Result<(), Refusal> {
+    let field = Field::new(9)?;
+    show(b"field 9: 83*202 ", u64::from(field.product(0x53, 0xCA)));
+    show(b", 87*131 ", u64::from(field.product(0x57, 0x83)));
+    show(b", 87*19 ", u64::from(field.product(0x57, 0x13)));
     io::write_all(STDOUT, b"\n");
+    Ok(())
 }
 
-fn main() {
+fn all_fields() -> Result<(), Refusal> {
     for m in 2..=9 {
-        facts(m);
+        facts(m)?;
     }
-    standard_products();
+    standard_products()
+}
+
+// Nothing is refused; a refusal would show.
+fn main() {
+    if let Err(refusal) = all_fields() {
+        show(b"refused by number ", u64::from(number(refusal)));
+    }
 }

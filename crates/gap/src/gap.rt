@@ -7,17 +7,13 @@ ghost use Rattle.patterns.specs.Cheapest.{gap_to};
 ghost use Rattle.patterns.specs.Computed.{least_left};
 
 use crate::left::{pair_left, single_left, triple_left};
-use crate::trusts::less;
 
 // The pairs of k places.
 fn pairs_of(k: usize) -> usize
     requires { k ≤ 288 }
     ensures { (result ≡ k * (k - 1) / 2) × (result ≤ 41328) }
 {
-    if k == 0 {
-        return 0;
-    }
-    k * (k - 1) / 2
+    k * k.saturating_sub(1) / 2
 }
 
 // All tries of k places by s amounts: none, k places, and k·(k − 1)/2 pairs.
@@ -34,7 +30,7 @@ pub fn gap(trusts: &[u8], places: &[u16], s: usize, tries: usize, cost: u32) -> 
     ensures { result ≡ gap_to cost (least_left (entries trusts.now places.now) (length places.now) s tries) }
 {
     let single = single_left(trusts, places, tries / s, cost);
-    let left = less(tries, places.len() * s);
+    let left = tries.saturating_sub(places.len() * s);
     let pair = pair_left(trusts, places, left / (s * s), single);
     cost - triple_left(trusts, places, pair)
 }

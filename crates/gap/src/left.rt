@@ -1,5 +1,5 @@
 // The least total trust of what is untried, part by part: a place, two pairs and three places. Each part takes the least so far and gives the new one.
-ghost use Rattle.std.specs.Prelude.{◌≡◌, ◌&&◌, ◌⊎◌, ◌+◌, ◌-◌, ◌<◌, ◌≤◌, min, leb, length, get_or};
+ghost use Rattle.std.specs.Prelude.{◌≡◌, ◌&&◌, ◌⊎◌, ◌+◌, ◌-◌, ◌<◌, ◌≤◌, leb, length, get_or};
 ghost use Rattle.arrangement.specs.Arranged.{Places};
 ghost use Rattle.patterns.specs.Best.{entries};
 ghost use Rattle.patterns.specs.Cheapest.{least};
@@ -7,15 +7,6 @@ ghost use Rattle.patterns.specs.Computed.{single_left, pair_below, pair_left, tr
 
 use crate::trusts::trust_of;
 use basics::MessageIndex;
-
-fn smaller(a: u32, b: u32) -> u32
-    ensures { result ≡ min a b }
-{
-    if b < a {
-        return b;
-    }
-    a
-}
 
 // The total trust of two picked places.
 fn pair_trust(trusts: &[u8], places: &[u16], late: usize, early: usize) -> u32
@@ -31,12 +22,10 @@ pub fn single_left(trusts: &[u8], places: &[u16], done: usize, low: u32) -> u32
     ensures { result ≡ least low (single_left (entries trusts.now places.now) (length places.now) done) }
 {
     if done < places.len() {
-        return smaller(
-            low,
-            trust_of(trusts, places, MessageIndex(places.len() - 1 - done)),
-        );
+        low.min(trust_of(trusts, places, MessageIndex(places.len() - 1 - done)))
+    } else {
+        low
     }
-    low
 }
 
 // The last two of the first k places.
@@ -45,19 +34,17 @@ fn pair_below(trusts: &[u8], places: &[u16], k: usize, low: u32) -> u32
     ensures { result ≡ least low (pair_below (entries trusts.now places.now) k) }
 {
     if 2 <= k {
-        return smaller(low, pair_trust(trusts, places, k - 1, k - 2));
+        low.min(pair_trust(trusts, places, k - 1, k - 2))
+    } else {
+        low
     }
-    low
 }
 
 // Whether all pairs with the last of k places as the later are tried.
 fn passed(k: usize, left: usize) -> bool
     ensures { result ≡ (leb 2 k && leb (k - 1) left) }
 {
-    if 2 <= k {
-        return k - 1 <= left;
-    }
-    false
+    2 <= k && k - 1 <= left
 }
 
 // The next pair with the last of k places as the later, and the first one of the place before it.
@@ -67,9 +54,10 @@ fn row_left(trusts: &[u8], places: &[u16], k: usize, left: usize, low: u32) -> u
 {
     if 2 <= k {
         let pair = pair_trust(trusts, places, k - 1, k - 2 - left);
-        return pair_below(trusts, places, k - 1, smaller(low, pair));
+        pair_below(trusts, places, k - 1, low.min(pair))
+    } else {
+        low
     }
-    low
 }
 
 // The two pairs.
@@ -94,7 +82,8 @@ pub fn triple_left(trusts: &[u8], places: &[u16], low: u32) -> u32
     let k = places.len();
     if 3 <= k {
         let last = trust_of(trusts, places, MessageIndex(k - 1));
-        return smaller(low, last + pair_trust(trusts, places, k - 2, k - 3));
+        low.min(last + pair_trust(trusts, places, k - 2, k - 3))
+    } else {
+        low
     }
-    low
 }

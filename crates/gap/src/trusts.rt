@@ -1,5 +1,5 @@
-// The trust of a picked place, and what is left of a number of tries.
-ghost use Rattle.std.specs.Prelude.{◌≡◌, ◌-◌, ◌<◌, ◌≤◌, length, get_or};
+// The trust of a picked place.
+ghost use Rattle.std.specs.Prelude.{◌≡◌, ◌<◌, ◌≤◌, length, get_or};
 ghost use Rattle.arrangement.specs.Arranged.{Places};
 ghost use Rattle.patterns.specs.Best.{entries};
 
@@ -12,15 +12,5 @@ pub fn trust_of(trusts: &[u8], places: &[u16], index: MessageIndex) -> u32
     ensures { (result ≡ get_or (entries trusts.now places.now) index.0 0) × (result ≤ 255) }
 {
     let place = chosen_place(places, index);
-    trusts[index_of(place)] as u32
-}
-
-// What is left of a number of tries after some.
-pub fn less(left: usize, some: usize) -> usize
-    ensures { result ≡ left - some }
-{
-    if left < some {
-        return 0;
-    }
-    left - some
+    u32::from(trusts[index_of(place)])
 }

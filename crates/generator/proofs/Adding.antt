@@ -10,7 +10,7 @@ use lib.ListN.{length, get_or}
 use Rattle.field.specs.Sum.{◌⊕◌}
 use Rattle.field.proofs.Sum.{⊕_eq}
 use Rattle.field.specs.Field.{Arithmetic, Field}
-use Rattle.field.proofs.Field.{ring, zero_lt}
+use Rattle.field.proofs.Laws.{ring, zero_lt}
 use Rattle.field.specs.Galois.{IsField, galois, product, inverse, size}
 use Rattle.field.proofs.Galois.{galois_field}
 use Rattle.values.specs.Values.{Passes}

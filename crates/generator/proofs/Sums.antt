@@ -6,7 +6,7 @@ use native.Mathlib.Omega.{arith}
 use Rattle.field.specs.Sum.{◌⊕◌}
 use Rattle.field.proofs.Sum.{⊕_assoc, ⊕_comm, ⊕_eq, ⊕_self, ⊕_zero}
 use Rattle.field.specs.Field.{Arithmetic, Field}
-use Rattle.field.proofs.Field.{ring, mul_one}
+use Rattle.field.proofs.Laws.{ring, mul_one}
 use Rattle.generator.specs.Rows.{total}
 
 -- ---- sums

@@ -54,14 +54,14 @@ indexed_none count free a b e f =
 
 module _ {count : ℕ} {free a₀ b₀ a b : List ℕ} {t s : ℕ} (w : Marked count free) (x : IndexedTo count free a₀ b₀ a b t s) where
   -- while there is a slot, not all points have been seen
-  pub mark_left : s < length free → t < length free
+  pub mark_left : s < length a → t < length free
   mark_left h =
       elim (ℕ_discrete t (length free)) [
-        | yes e ↦ omega (arith, ap (slot_of count free) e, w.whole, x.next)
+        | yes e ↦ omega (arith, ap (slot_of count free) e, w.whole, x.next, x.first_size)
         | no n ↦ omega (arith, x.upto)
       ]
 
-  pub indexed_turn : s < length free → {low high f : ℕ} → low ≡ t % 256 → high ≡ t / 256 → f ≡ get_or free t 0
+  pub indexed_turn : s < length a → {low high f : ℕ} → low ≡ t % 256 → high ≡ t / 256 → f ≡ get_or free t 0
       → IndexedTo count free a₀ b₀ (set a s low) (set b s high) (t + 1) (s + f)
   indexed_turn h {low} {high} {f} p q e =
       record {
@@ -84,7 +84,7 @@ module _ {count : ℕ} {free a₀ b₀ a b : List ℕ} {t s : ℕ} (w : Marked c
     where
       here : index_at (set a s low) (set b s high) s ≡ t
       here =
-          ap₂ (λ y z. y + 256 * z) (get_or-set_same a s low 0 (omega (arith, x.first_size))) (get_or-set_same b s high 0 (omega (arith, x.second_size)))
+          ap₂ (λ y z. y + 256 * z) (get_or-set_same a s low 0 h) (get_or-set_same b s high 0 (omega (arith, x.first_size, x.second_size)))
           ∙ omega (arith, p, q)
 
       at : (r : ℕ) → r ≡ s → index_at (set a s low) (set b s high) r ≡ t
@@ -96,14 +96,14 @@ module _ {count : ℕ} {free a₀ b₀ a b : List ℕ} {t s : ℕ} (w : Marked c
       earlier : (r : ℕ) → r < s + f → (r ≡ s → ⊥) → r < s
       earlier r l d = omega (arith, w.small t (mark_left h), e)
 
-  pub indexed_all : length free ≤ s → Behind count free a₀ b₀ a b
+  pub indexed_all : length a ≤ s → Behind count free a₀ b₀ a b
   indexed_all h =
       record {
         indexed =
             record {
-              inside = λ r k l. omega (arith, x.inside r k (omega arith), x.upto);
-              is_free = λ r k l. x.is_free r k (omega arith);
-              ranked = λ r k l. x.ranked r k (omega arith);
+              inside = λ r k l. omega (arith, x.inside r k (omega (arith, x.first_size)), x.upto);
+              is_free = λ r k l. x.is_free r k (omega (arith, x.first_size));
+              ranked = λ r k l. x.ranked r k (omega (arith, x.first_size));
               whole = omega (arith, w.whole);
             };
         firsts = x.firsts;

@@ -68,9 +68,6 @@ rows_raised m i rc t xs a b {a₁} {o} {own} {s} g e w p f =
       new_second = get_or-set_same b i 0 0 (omega (arith, g.seconds));
     }
 
-pub fewer_rows : {xs a b : List ℕ} {i : ℕ} → RowLists xs a b (i + 1) → RowLists xs a b i
-fewer_rows g = record { points = omega (arith, g.points); firsts = omega (arith, g.firsts); seconds = omega (arith, g.seconds) }
-
 -- the factors change places
 pub rows_turned : {xs a b : List ℕ} {i : ℕ} → RowLists xs a b i → RowLists xs b a i
 rows_turned g = record { points = g.points; firsts = g.seconds; seconds = g.firsts }

@@ -13,7 +13,7 @@ use Rattle.basics.proofs.Lists.{get_or_table}
 use Rattle.field.specs.Sum.{◌⊕◌}
 use Rattle.field.specs.Field.{Arithmetic, Field}
 use Rattle.field.specs.Galois.{IsField, galois, product, inverse, size}
-use Rattle.field.proofs.Field.{ring}
+use Rattle.field.proofs.Laws.{ring}
 use Rattle.field.proofs.Galois.{galois_field}
 use Rattle.field.proofs.Sum.{zero_⊕}
 use Rattle.elliptic.specs.declared.Point.{Point}

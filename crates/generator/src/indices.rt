@@ -3,8 +3,6 @@
 ghost use Rattle.std.specs.Prelude.{◌≡◌, ◌+◌, ◌*◌, ◌/◌, ◌%◌, ◌<◌, length};
 ghost use Rattle.generator.specs.Rows.{index_at, Marked, Behind};
 
-use basics::byte::wide;
-
 fn low_byte(i: usize) -> u8
     ensures { result ≡ i % 256 }
 {
@@ -21,7 +19,7 @@ fn high_byte(i: usize) -> u8
 fn joined_bytes(low: u8, high: u8) -> usize
     ensures { result ≡ low + 256 * high }
 {
-    low as usize + 256 * (high as usize)
+    usize::from(low) + 256 * usize::from(high)
 }
 
 // The index of the point in slot s.
@@ -42,7 +40,7 @@ pub fn index_free(count: usize, free: &[u8], a: &mut [u8], b: &mut [u8])
     while s < a.len() {
         a[s] = low_byte(t);
         b[s] = high_byte(t);
-        s += wide(free[t]);
+        s += usize::from(free[t]);
         t += 1;
     }
 }

@@ -2,7 +2,6 @@
 ghost use Rattle.std.specs.Prelude.{◌≡◌, [], cond, ◌≤◌, length, take};
 ghost use Rattle.basics.specs.Lists.{Holds};
 ghost use Rattle.field.specs.Galois.{galois};
-ghost use Rattle.field.specs.Tables.{Tables};
 ghost use Rattle.elliptic.specs.Pair.{evaluate, corrected, start, after};
 ghost use Rattle.engine.specs.Arrays.{Pair, Filled, Long, Room, WordRoom};
 ghost use Rattle.engine.specs.Places.{points_of, Runs};
@@ -12,6 +11,7 @@ use elliptic::Point;
 use engine::pair::{Lengths, Sizes, complete, first_sizes, pair_turn, turn};
 use engine::places::{chosen_place, message_symbol, point_at};
 use engine::slices::value;
+use field::Field;
 
 // L = 1 in l, and U = Y in u.
 fn begin(l: &mut [u8], u: &mut [u8])
@@ -26,9 +26,7 @@ fn begin(l: &mut [u8], u: &mut [u8])
 
 // The pair of the first places.
 pub fn run_pair(
-    m: u8,
-    powers: &[u8; 1021],
-    logs: &[u16; 512],
+    field: &Field,
     xs: &[u8],
     ys: &[u8],
     places: &[u16],
@@ -36,28 +34,23 @@ pub fn run_pair(
     l: &mut [u8],
     u: &mut [u8],
 ) -> Sizes
-    requires tables { Tables m powers.now logs.now }
-    requires runs { Runs m xs.now ys.now places.now [] count × Long l.old u.old }
+    requires runs { Runs field.now.number xs.now ys.now places.now [] count × Long l.old u.old }
     ensures { Pair l.new u.new result
-        (after (galois m) (points_of xs.now ys.now places.now) [] count) }
+        (after (galois field.now.number) (points_of xs.now ys.now places.now) [] count) }
 {
     begin(l, u);
     let mut n = first_sizes();
-    let mut i = 0;
-    while i < count {
+    for i in 0..count {
         let place = chosen_place(places, MessageIndex(i));
         let p = point_at(xs, ys, place);
-        n = pair_turn(m, powers, logs, p, l, u, n);
-        i += 1;
+        n = pair_turn(field, p, l, u, n);
     }
     n
 }
 
 // The pair and the interpolant of the first places, where it takes the symbols.
 pub fn run(
-    m: u8,
-    powers: &[u8; 1021],
-    logs: &[u16; 512],
+    field: &Field,
     xs: &[u8],
     ys: &[u8],
     places: &[u16],
@@ -67,71 +60,48 @@ pub fn run(
     u: &mut [u8],
     f: &mut [u8],
 ) -> Lengths
-    requires tables { Tables m powers.now logs.now }
-    requires runs { Runs m xs.now ys.now places.now symbols.now count × Long l.old u.old × (count ≤ length symbols.now) × (292 ≤ length f.old) }
+    requires runs { Runs field.now.number xs.now ys.now places.now symbols.now count × Long l.old u.old × (count ≤ length symbols.now) × (292 ≤ length f.old) }
     ensures { Filled l.new u.new f.new result
-        (after (galois m) (points_of xs.now ys.now places.now) symbols.now count) }
+        (after (galois field.now.number) (points_of xs.now ys.now places.now) symbols.now count) }
 {
     begin(l, u);
     let mut n = Lengths {
         pair: first_sizes(),
         word: 0,
     };
-    let mut i = 0;
-    while i < count {
+    for i in 0..count {
         let index = MessageIndex(i);
         let place = chosen_place(places, index);
         let p = point_at(xs, ys, place);
         let v = message_symbol(symbols, index);
-        n = turn(m, powers, logs, p, v, l, u, f, n);
-        i += 1;
+        n = turn(field, p, v, l, u, f, n);
     }
     n
 }
 
 // The value of L at p.
-pub fn low_at(
-    m: u8,
-    powers: &[u8; 1021],
-    logs: &[u16; 512],
-    p: Point,
-    l: &[u8],
-    u: &[u8],
-    n: Sizes,
-) -> u8
-    requires tables { Tables m powers.now logs.now }
+pub fn low_at(field: &Field, p: Point, l: &[u8], u: &[u8], n: Sizes) -> u8
     requires room { Room l.now u.now n }
-    ensures { result ≡ evaluate (galois m) (take n.low (cond n.turned u.now l.now)) p }
+    ensures { result ≡ evaluate (galois field.now.number) (take n.low (cond n.turned u.now l.now)) p }
 {
     let low = n.low;
     let turned = n.turned;
     if turned {
-        return value(m, powers, logs, p.x, p.y, &u[..low]);
+        return value(field, p.x, p.y, &u[..low]);
     }
-    value(m, powers, logs, p.x, p.y, &l[..low])
+    value(field, p.x, p.y, &l[..low])
 }
 
 // F gains the multiple of L that makes its value at p v; how many coefficients it has then.
-pub fn finish(
-    m: u8,
-    powers: &[u8; 1021],
-    logs: &[u16; 512],
-    p: Point,
-    v: u8,
-    l: &[u8],
-    u: &[u8],
-    f: &mut [u8],
-    n: Lengths,
-) -> usize
-    requires tables { Tables m powers.now logs.now }
+pub fn finish(field: &Field, p: Point, v: u8, l: &[u8], u: &[u8], f: &mut [u8], n: Lengths) -> usize
     requires room { Room l.now u.now n.pair × WordRoom f.old n }
     ensures { Holds f.new result
-        (corrected (galois m) p v (take n.pair.low (cond n.pair.turned u.now l.now)) (take n.word f.old)) }
+        (corrected (galois field.now.number) p v (take n.pair.low (cond n.pair.turned u.now l.now)) (take n.word f.old)) }
 {
     let low = n.pair.low;
     let turned = n.pair.turned;
     if turned {
-        return complete(m, powers, logs, p, v, &u[..low], f, n.word);
+        return complete(field, p, v, &u[..low], f, n.word);
     }
-    complete(m, powers, logs, p, v, &l[..low], f, n.word)
+    complete(field, p, v, &l[..low], f, n.word)
 }

@@ -2,7 +2,6 @@
 ghost use Rattle.std.specs.Prelude.{◌≡◌, cond, map, ◌≤◌, length, take};
 ghost use Rattle.basics.specs.Lists.{same};
 ghost use Rattle.field.specs.Galois.{galois};
-ghost use Rattle.field.specs.Tables.{Tables};
 ghost use Rattle.elliptic.specs.Pair.{evaluate, padded};
 ghost use Rattle.engine.specs.Arrays.{Room};
 ghost use Rattle.engine.specs.Places.{points_of, Within};
@@ -11,6 +10,7 @@ use basics::MessageIndex;
 use engine::pair::{Sizes, extend};
 use engine::places::{chosen_place, message_symbol, point_at};
 use engine::slices::{copy, value};
+use field::Field;
 
 // The function that is the first n coefficients of f, with zeros to the length of out.
 pub fn write_function(f: &[u8], n: usize, out: &mut [u8])
@@ -36,29 +36,17 @@ pub fn write_low(l: &[u8], u: &[u8], n: Sizes, out: &mut [u8])
 }
 
 // The value of f at every place is the symbol at the same index.
-pub fn agrees(
-    m: u8,
-    powers: &[u8; 1021],
-    logs: &[u16; 512],
-    xs: &[u8],
-    ys: &[u8],
-    places: &[u16],
-    symbols: &[u8],
-    f: &[u8],
-) -> bool
-    requires tables { Tables m powers.now logs.now }
+pub fn agrees(field: &Field, xs: &[u8], ys: &[u8], places: &[u16], symbols: &[u8], f: &[u8]) -> bool
     requires within { Within xs.now ys.now places.now (length places.now) × (length symbols.now ≡ length places.now) }
-    ensures { result ≡ same (map (evaluate (galois m) f.now) (points_of xs.now ys.now places.now)) symbols.now }
+    ensures { result ≡ same (map (evaluate (galois field.now.number) f.now) (points_of xs.now ys.now places.now)) symbols.now }
 {
-    let mut i = 0;
-    while i < places.len() {
+    for i in 0..places.len() {
         let index = MessageIndex(i);
         let place = chosen_place(places, index);
         let p = point_at(xs, ys, place);
-        if value(m, powers, logs, p.x, p.y, f) != message_symbol(symbols, index) {
+        if value(field, p.x, p.y, f) != message_symbol(symbols, index) {
             return false;
         }
-        i += 1;
     }
     true
 }

@@ -114,3 +114,12 @@ module _ {limit : ℕ} {w0 w1 w2 w3 : Row} {at : ℕ} {w : Row} where
   index_none (is_c z e l) n0 n1 n2 n3 = absurd (n2 z)
   index_none (is_d z e l) n0 n1 n2 n3 = absurd (n3 z)
   index_none (none z e) n0 n1 n2 n3 = z
+
+-- ---- the pivot of the code by that of the definition
+
+module _ {p best : Pivot} (e : p ≡ best) {j : ℕ} where
+  pub is_at : p.at ≡ j → best.at ≡ j
+  is_at z = sym (ap (λ (p : Pivot). p.at) e) ∙ z
+
+  pub not_at : (p.at ≡ j → ⊥) → best.at ≡ j → ⊥
+  not_at n z = n (ap (λ (p : Pivot). p.at) e ∙ z)

@@ -12,7 +12,7 @@ use Rattle.basics.proofs.Lists.{part_length, extended, get_or_zeros}
 use Rattle.field.specs.Sum.{◌⊕◌}
 use Rattle.field.specs.Field.{Arithmetic, Field}
 use Rattle.field.specs.Galois.{galois, IsField}
-use Rattle.field.proofs.Field.{ring, ·_zero}
+use Rattle.field.proofs.Laws.{ring, ·_zero}
 use Rattle.field.proofs.Galois.{galois_field}
 use Rattle.elliptic.specs.Pair.{add_scaled, shifted, times_linear}
 use Rattle.elliptic.proofs.Function.{length_add}
@@ -21,9 +21,6 @@ use Rattle.decoding.proofs.Weighted.{get_add}
 use Rattle.locator.specs.Arrays.{den_in, longer, shorter, Behind, Widened, MixesDen, LiftsDen}
 
 -- ---- how many coefficients
-
-pub longer_left : (a b : ℕ) → a ≤ longer a b
-longer_left a b = elim (dec_lt a b) [ yes h ↦ rw (lt-ltb a b h) (omega arith) | no h ↦ rw (le-ltb a b (omega arith)) (omega arith) ]
 
 pub longer_right : (a b : ℕ) → b ≤ longer a b
 longer_right a b = elim (dec_lt a b) [ yes h ↦ rw (lt-ltb a b h) (omega arith) | no h ↦ rw (le-ltb a b (omega arith)) (omega arith) ]
@@ -49,6 +46,9 @@ longer_is a b l = elim (dec_lt a b) [ yes h ↦ rw (lt-ltb a b h) | no h ↦ rw 
 -- how many coefficients (X + α)·E has
 pub lift_size : (s room : ℕ) {r : ℕ} → s ≤ room → r ≡ longer s (shorter (s + 2) room) → r ≡ shorter (s + 2) room
 lift_size s room h q = q ∙ longer_is s (shorter (s + 2) room) (shorter_least (s + 2) room s (omega arith) h)
+
+pub lift_within : (s room : ℕ) {r : ℕ} {old new : List ℕ} → s ≤ room → shorter (s + 2) room ≤ length old → r ≡ longer s (shorter (s + 2) room) → Widened s r old new → r ≤ length new
+lift_within s room h g q w = rw (w.behind.size, lift_size s room h q) g
 
 -- ---- what stands behind
 
@@ -90,9 +90,6 @@ widened s w row z h k e =
 
     long : length (take s row ++ z) ≡ w
     long = rw (length-append (take s row) z, zeros, length-replicate {A = ℕ} (w - s) 0, length-take-le s row (omega arith)) end
-
-pub widened_none : (s : ℕ) (row : List ℕ) → Widened s s row row
-widened_none s row = record { behind = behind_same s row; same = λ room h g. refl }
 
 -- ---- a multiple of p
 
@@ -214,7 +211,7 @@ module _ {m : ℕ} (f : IsField m) where
       most = rw is (shorter_right (s + 2) room)
 
       within : r ≤ length row
-      within = rw (w.behind.size, is) g
+      within = lift_within s room h g q w
 
       size : length e ≡ r
       size = ap length t ∙ length_linear (galois m) α (take r row) ∙ length-take-le r row within

@@ -15,7 +15,7 @@ use Rattle.basics.proofs.Lists.{get_or_table, get_or_zeros, is_table}
 use Rattle.field.specs.Sum.{◌⊕◌}
 use Rattle.field.specs.Field.{Arithmetic, Field}
 use Rattle.field.specs.Galois.{IsField, galois}
-use Rattle.field.proofs.Field.{ring, mul_one}
+use Rattle.field.proofs.Laws.{ring, mul_one}
 use Rattle.field.proofs.Galois.{galois_field}
 use Rattle.elliptic.specs.declared.Point.{Point}
 use Rattle.elliptic.specs.Curve.{point}

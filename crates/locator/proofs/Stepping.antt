@@ -172,54 +172,6 @@ module _ {m : ℕ} (field : IsField m) {shape : Layout} {xs ys us : List ℕ} (l
   abbrev Room : Heads → List ℕ → List ℕ → List ℕ → List ℕ → Type 0
   Room hs p a b c = TurnRoom shape i xs hs p a b c
 
-  pub room_a : Room hs a b c d
-  room_a =
-      record {
-        inside = inside;
-        most = laid.most;
-        few = laid.few;
-        key_small = after.classes.small.0;
-        lengths = (after.in_a.size, after.in_b.size, after.in_c.size, after.in_d.size);
-        sizes = (after.in_a.most, after.in_b.most, after.in_c.most, after.in_d.most);
-        slow = (after.in_a.slow, after.in_b.slow, after.in_c.slow, after.in_d.slow);
-      }
-
-  pub room_b : Room (exchanged_at 1 hs) b a c d
-  room_b =
-      record {
-        inside = inside;
-        most = laid.most;
-        few = laid.few;
-        key_small = after.classes.small.1;
-        lengths = (after.in_b.size, after.in_a.size, after.in_c.size, after.in_d.size);
-        sizes = (after.in_b.most, after.in_a.most, after.in_c.most, after.in_d.most);
-        slow = (after.in_b.slow, after.in_a.slow, after.in_c.slow, after.in_d.slow);
-      }
-
-  pub room_c : Room (exchanged_at 2 hs) c b a d
-  room_c =
-      record {
-        inside = inside;
-        most = laid.most;
-        few = laid.few;
-        key_small = after.classes.small.2;
-        lengths = (after.in_c.size, after.in_b.size, after.in_a.size, after.in_d.size);
-        sizes = (after.in_c.most, after.in_b.most, after.in_a.most, after.in_d.most);
-        slow = (after.in_c.slow, after.in_b.slow, after.in_a.slow, after.in_d.slow);
-      }
-
-  pub room_d : Room (exchanged_at 3 hs) d b c a
-  room_d =
-      record {
-        inside = inside;
-        most = laid.most;
-        few = laid.few;
-        key_small = after.classes.small.3;
-        lengths = (after.in_d.size, after.in_b.size, after.in_c.size, after.in_a.size);
-        sizes = (after.in_d.most, after.in_b.most, after.in_c.most, after.in_a.most);
-        slow = (after.in_d.slow, after.in_b.slow, after.in_c.slow, after.in_a.slow);
-      }
-
   -- ---- the rows after the place
 
   abbrev Next : Heads → List ℕ → List ℕ → List ℕ → List ℕ → Type 0

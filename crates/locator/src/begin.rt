@@ -1,6 +1,5 @@
 // The rows before the first place: (1, 0), (Y, 0), (0, 1) and (0, Y).
 ghost use Rattle.std.specs.Prelude.{◌≡◌, ◌+◌, ◌≤◌, length};
-ghost use Rattle.field.specs.Tables.{Tables};
 ghost use Rattle.locator.specs.Arrays.{Laid, Below, FourLong, After};
 ghost use Rattle.locator.specs.First.{first_heads, FirstDefects, FirstDens};
 
@@ -8,13 +7,11 @@ use crate::choose::{Head, Heads};
 use crate::turn::{HEAD, Layout};
 use arrangement::arrange::fill_ones;
 use engine::slices::copy;
-use field::fill_products;
+use field::{Field, fill_products};
 
 // Their defects.
 fn begin_defects(
-    m: u8,
-    powers: &[u8; 1021],
-    logs: &[u16; 512],
+    field: &Field,
     ys: &[u8],
     us: &[u8],
     a: &mut [u8],
@@ -22,15 +19,14 @@ fn begin_defects(
     c: &mut [u8],
     d: &mut [u8],
 )
-    requires tables { Tables m powers.now logs.now }
     requires us_len { (length us.now ≡ length ys.now) × FourLong (length ys.now) a.old b.old c.old d.old }
-    ensures { FirstDefects m ys.now us.now a.new b.new c.new d.new }
+    ensures { FirstDefects field.now.number ys.now us.now a.new b.new c.new d.new }
 {
     let n = ys.len();
     fill_ones(&mut a[HEAD..]);
     copy(ys, n, &mut b[HEAD..]);
     copy(us, n, &mut c[HEAD..]);
-    fill_products(m, powers, logs, ys, us, &mut d[HEAD..]);
+    fill_products(field, ys, us, &mut d[HEAD..]);
 }
 
 // E of the two that have one.
@@ -67,9 +63,7 @@ fn first_heads(shape: Layout) -> Heads
 
 // All four.
 pub fn begin(
-    m: u8,
-    powers: &[u8; 1021],
-    logs: &[u16; 512],
+    field: &Field,
     shape: Layout,
     xs: &[u8],
     ys: &[u8],
@@ -79,11 +73,10 @@ pub fn begin(
     c: &mut [u8],
     d: &mut [u8],
 ) -> Heads
-    requires tables { Tables m powers.now logs.now }
-    requires laid { Laid shape xs.now ys.now us.now × Below m ys.now × Below m us.now × FourLong (length xs.now) a.old b.old c.old d.old }
-    ensures { After m shape xs.now ys.now us.now 0 result a.new b.new c.new d.new }
+    requires laid { Laid shape xs.now ys.now us.now × Below field.now.number ys.now × Below field.now.number us.now × FourLong (length xs.now) a.old b.old c.old d.old }
+    ensures { After field.now.number shape xs.now ys.now us.now 0 result a.new b.new c.new d.new }
 {
-    begin_defects(m, powers, logs, ys, us, a, b, c, d);
+    begin_defects(field, ys, us, a, b, c, d);
     begin_dens(c, d);
     first_heads(shape)
 }

@@ -1,13 +1,12 @@
 // One place more, for the four rows in their arrays: a pivot, and three others.
 ghost use Rattle.std.specs.Prelude.{◌≡◌, ◌+◌, ◌<◌, ◌≤◌, suc, length, get_or};
-ghost use Rattle.field.specs.Tables.{Tables};
 ghost use Rattle.values.specs.Values.{gained_at};
 ghost use Rattle.locator.specs.Arrays.{head, lifted_at, From, Cancels, SizesFit, DensTurn, TurnRoom, Turns};
 
 use crate::choose::{Head, Heads};
 use crate::den::{lift_den, mix_den};
 use crate::pass::pass;
-use field::quotient;
+use field::Field;
 
 // Where the defects begin in an array.
 pub const HEAD: usize = 74;
@@ -29,24 +28,14 @@ pub struct Multiples {
 }
 
 // Those that cancel the defects at index o.
-fn cancelling(
-    m: u8,
-    powers: &[u8; 1021],
-    logs: &[u16; 512],
-    o: usize,
-    p: &[u8],
-    a: &[u8],
-    b: &[u8],
-    c: &[u8],
-) -> Multiples
-    requires tables { Tables m powers.now logs.now }
+fn cancelling(field: &Field, o: usize, p: &[u8], a: &[u8], b: &[u8], c: &[u8]) -> Multiples
     requires o_in_bounds { (o < length p.now) × (o < length a.now) × (o < length b.now) × (o < length c.now) }
-    ensures { Cancels m o p.now a.now b.now c.now result }
+    ensures { Cancels field.now.number o p.now a.now b.now c.now result }
 {
     let d = p[o];
-    let ta = quotient(m, powers, logs, a[o], d);
-    let tb = quotient(m, powers, logs, b[o], d);
-    let tc = quotient(m, powers, logs, c[o], d);
+    let ta = field.quotient(a[o], d);
+    let tb = field.quotient(b[o], d);
+    let tc = field.quotient(c[o], d);
     Multiples {
         a: ta,
         b: tb,
@@ -56,9 +45,7 @@ fn cancelling(
 
 // The defects at the places behind index i.
 fn turn_defects(
-    m: u8,
-    powers: &[u8; 1021],
-    logs: &[u16; 512],
+    field: &Field,
     i: usize,
     ts: Multiples,
     xs: &[u8],
@@ -67,21 +54,18 @@ fn turn_defects(
     b: &mut [u8],
     c: &mut [u8],
 )
-    requires tables { Tables m powers.now logs.now }
     requires i_in_bounds { (i < length xs.now) × (length xs.now ≤ 288) }
     requires p_len { (length p.old ≡ head + length xs.now) × (length a.old ≡ head + length xs.now) × (length b.old ≡ head + length xs.now) × (length c.old ≡ head + length xs.now) }
-    ensures { From (head + suc i) (lifted_at m xs.now (get_or xs.now i 0) p.old) p.old p.new
-        × From (head + suc i) (gained_at m ts.a p.old a.old) a.old a.new
-        × From (head + suc i) (gained_at m ts.b p.old b.old) b.old b.new
-        × From (head + suc i) (gained_at m ts.c p.old c.old) c.old c.new }
+    ensures { From (head + suc i) (lifted_at field.now.number xs.now (get_or xs.now i 0) p.old) p.old p.new
+        × From (head + suc i) (gained_at field.now.number ts.a p.old a.old) a.old a.new
+        × From (head + suc i) (gained_at field.now.number ts.b p.old b.old) b.old b.new
+        × From (head + suc i) (gained_at field.now.number ts.c p.old c.old) c.old c.new }
 {
     let alpha = xs[i];
     let next = i + 1;
     let from = HEAD + next;
     pass(
-        m,
-        powers,
-        logs,
+        field,
         alpha,
         ts.a,
         ts.b,
@@ -96,9 +80,7 @@ fn turn_defects(
 
 // E of each row.
 fn turn_dens(
-    m: u8,
-    powers: &[u8; 1021],
-    logs: &[u16; 512],
+    field: &Field,
     alpha: u8,
     room: usize,
     ts: Multiples,
@@ -108,19 +90,18 @@ fn turn_dens(
     b: &mut [u8],
     c: &mut [u8],
 ) -> Heads
-    requires tables { Tables m powers.now logs.now }
     requires sizes_fit { SizesFit room hs p.old a.old b.old c.old }
-    ensures { DensTurn m alpha room ts hs p.old a.old b.old c.old result p.new a.new b.new c.new }
+    ensures { DensTurn field.now.number alpha room ts hs p.old a.old b.old c.old result p.new a.new b.new c.new }
 {
     let hp = hs.a;
     let ha = hs.b;
     let hb = hs.c;
     let hc = hs.d;
     let sp = hp.size;
-    let sa = mix_den(m, powers, logs, ts.a, sp, p, ha.size, a);
-    let sb = mix_den(m, powers, logs, ts.b, sp, p, hb.size, b);
-    let sc = mix_den(m, powers, logs, ts.c, sp, p, hc.size, c);
-    let s = lift_den(m, powers, logs, alpha, room, sp, p);
+    let sa = mix_den(field, ts.a, sp, p, ha.size, a);
+    let sb = mix_den(field, ts.b, sp, p, hb.size, b);
+    let sc = mix_den(field, ts.c, sp, p, hc.size, c);
+    let s = lift_den(field, alpha, room, sp, p);
     Heads {
         a: Head {
             key: hp.key + 4,
@@ -143,9 +124,7 @@ fn turn_dens(
 
 // One place more, with index i: p is the pivot.
 pub fn turn(
-    m: u8,
-    powers: &[u8; 1021],
-    logs: &[u16; 512],
+    field: &Field,
     i: usize,
     shape: Layout,
     xs: &[u8],
@@ -155,11 +134,10 @@ pub fn turn(
     b: &mut [u8],
     c: &mut [u8],
 ) -> Heads
-    requires tables { Tables m powers.now logs.now }
     requires turn_room { TurnRoom shape i xs.now hs p.old a.old b.old c.old }
-    ensures { Turns m shape xs.now i hs p.old a.old b.old c.old result p.new a.new b.new c.new }
+    ensures { Turns field.now.number shape xs.now i hs p.old a.old b.old c.old result p.new a.new b.new c.new }
 {
-    let ts = cancelling(m, powers, logs, HEAD + i, p, a, b, c);
-    turn_defects(m, powers, logs, i, ts, xs, p, a, b, c);
-    turn_dens(m, powers, logs, xs[i], shape.t + 1, ts, hs, p, a, b, c)
+    let ts = cancelling(field, HEAD + i, p, a, b, c);
+    turn_defects(field, i, ts, xs, p, a, b, c);
+    turn_dens(field, xs[i], shape.t + 1, ts, hs, p, a, b, c)
 }

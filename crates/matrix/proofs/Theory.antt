@@ -18,7 +18,7 @@ use Rattle.field.specs.Sum.{◌⊕◌}
 use Rattle.field.proofs.Sum.{⊕_self}
 use Rattle.field.specs.Field.{Arithmetic, Field}
 use Rattle.field.specs.Galois.{size}
-use Rattle.field.proofs.Field.{ring, mul_one}
+use Rattle.field.proofs.Laws.{ring, mul_one}
 use Rattle.elliptic.specs.declared.Point.{Point}
 use Rattle.elliptic.specs.declared.Curve.{Curve}
 use Rattle.elliptic.specs.Curve.{point}

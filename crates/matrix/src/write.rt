@@ -2,8 +2,7 @@
 // first what its factors give, and when all rows have that, what their sums leave.
 ghost use Rattle.std.specs.Prelude.{◌≡◌, ◌*◌, ◌≤◌, length, replicate};
 ghost use Rattle.basics.specs.Lists.{table};
-ghost use Rattle.field.specs.Tables.{Tables};
-ghost use Rattle.codewords.specs.Code.{code_of};
+ghost use Rattle.code.specs.Shown.{shown};
 ghost use Rattle.solving.specs.Given.{Placed};
 ghost use Rattle.solving.specs.Tests.{room, cleared};
 ghost use Rattle.coder.specs.Outcomes.{joined};
@@ -14,10 +13,11 @@ ghost use Rattle.matrix.specs.Given.{Sized, Begun, Written, Parts, AllCompleted,
 
 use arrangement::arrange::{arrange, fill_ones, mark};
 use basics::MessageIndex;
-use codewords::Parameters;
+use code::accepted::Code;
 use engine::pair::Sizes;
 use engine::places::chosen_place;
 use engine::slices::clear;
+use field::Field;
 use generator::entries::{complete_row, fill_row};
 use generator::indices::index_free;
 use generator::run::run_rows;
@@ -25,11 +25,7 @@ use solving::work::clear_room;
 
 // The points with the chosen ones first, and the rows of all of these but the last. Until then a marks the points that are not chosen.
 pub fn begin_rows(
-    p: Parameters,
-    powers: &[u8; 1021],
-    logs: &[u16; 512],
-    xs: &[u8],
-    ys: &[u8],
+    code: &Code,
     places: &[u16],
     px: &mut [u8],
     l: &mut [u8],
@@ -37,15 +33,14 @@ pub fn begin_rows(
     a: &mut [u8],
     b: &mut [u8],
 ) -> Sizes
-    requires tables { Tables p.field powers.now logs.now }
-    requires placed { Placed (code_of p xs.now ys.now) places.now × (length places.now ≡ p.k) × Sized (length xs.now) px.old l.old u.old a.old b.old }
-    ensures { Begun (code_of p xs.now ys.now) places.now px.new l.new u.new a.new b.new result }
+    requires placed { Placed (shown code.now) places.now × (length places.now ≡ code.now.k) × Sized (length code.now.xs.now) px.old l.old u.old a.old b.old }
+    ensures { Begun (shown code.now) places.now px.new l.new u.new a.new b.new result }
 {
-    let k = p.k;
+    let k = code.k;
     mark(places, a);
-    arrange(places, a, xs, px);
-    arrange(places, a, ys, u);
-    run_rows(p.field, powers, logs, px, k, l, u, a, b)
+    arrange(places, a, code.xs, px);
+    arrange(places, a, code.ys, u);
+    run_rows(code.field, px, k, l, u, a, b)
 }
 
 // The indices of the points that are not chosen, behind the factors. `marks` marks these points, and is lent for that.
@@ -59,9 +54,7 @@ pub fn index_rest(k: usize, places: &[u16], a: &mut [u8], b: &mut [u8], marks: &
 
 // What the factors of all rows give, in a clear buffer, and the sums, which begin as 1.
 fn part_rows(
-    m: u8,
-    powers: &[u8; 1021],
-    logs: &[u16; 512],
+    field: &Field,
     k: usize,
     px: &[u8],
     l: &[u8],
@@ -71,20 +64,17 @@ fn part_rows(
     sums: &mut [u8],
     out: &mut [u8],
 )
-    requires tables { Tables m powers.now logs.now }
     requires slots { Slots k px.now a.now b.now sums.old px.now × (length l.now ≡ length px.now) × (length u.now ≡ length px.now)
         × (length out.old ≡ k * length px.now) × (sums.old ≡ table one (length px.now)) × (out.old ≡ replicate (k * length px.now) 0) }
-    ensures { Parts m k px.now l.now u.now a.now b.now sums.new out.new k }
+    ensures { Parts field.now.number k px.now l.now u.now a.now b.now sums.new out.new k }
 {
     let n = px.len();
-    let mut i = 0;
-    while i < k {
+    for i in 0..k {
         let index = MessageIndex(i);
         let start = i * n;
         let end = start + n;
         let row = &mut out[start..end];
-        fill_row(m, powers, logs, index, k, px, l, u, a, b, sums, row);
-        i += 1;
+        fill_row(field, index, k, px, l, u, a, b, sums, row);
     }
 }
 
@@ -102,23 +92,19 @@ fn complete_rows(
     ensures { AllCompleted k places.now px.now a.now b.now sums.now out.old out.new }
 {
     let n = px.len();
-    let mut i = 0;
-    while i < k {
+    for i in 0..k {
         let index = MessageIndex(i);
         let place = chosen_place(places, index);
         let from = i * n;
         let to = from + n;
         let row = &mut out[from..to];
         complete_row(index, place, k, px, a, b, sums, row);
-        i += 1;
     }
 }
 
 // The symbols of all rows. `sums` is lent, one for each point.
 fn fill_rows(
-    m: u8,
-    powers: &[u8; 1021],
-    logs: &[u16; 512],
+    field: &Field,
     k: usize,
     places: &[u16],
     px: &[u8],
@@ -129,22 +115,19 @@ fn fill_rows(
     sums: &mut [u8],
     out: &mut [u8],
 )
-    requires tables { Tables m powers.now logs.now }
     requires written { Written k places.now px.now l.now u.now a.old b.old out.old × (length sums.old ≡ length px.now) }
-    ensures { out.new ≡ joined (table (row_at m k places.now px.now l.now u.now a.old b.old) k) }
+    ensures { out.new ≡ joined (table (row_at field.now.number k places.now px.now l.now u.now a.old b.old) k) }
 {
     index_rest(k, places, a, b, sums);
     fill_ones(sums);
     clear(out);
-    part_rows(m, powers, logs, k, px, l, u, a, b, sums, out);
+    part_rows(field, k, px, l, u, a, b, sums, out);
     complete_rows(k, places, px, a, b, sums, out);
 }
 
 // The same with the sums in the working space, which is cleared behind it.
 pub fn write_rows(
-    m: u8,
-    powers: &[u8; 1021],
-    logs: &[u16; 512],
+    field: &Field,
     k: usize,
     places: &[u16],
     px: &[u8],
@@ -155,25 +138,11 @@ pub fn write_rows(
     out: &mut [u8],
     work: &mut [u8],
 )
-    requires tables { Tables m powers.now logs.now }
     requires written { Written k places.now px.now l.now u.now a.old b.old out.old × (room ≤ length work.old) }
-    ensures { (out.new ≡ joined (table (row_at m k places.now px.now l.now u.now a.old b.old) k))
+    ensures { (out.new ≡ joined (table (row_at field.now.number k places.now px.now l.now u.now a.old b.old) k))
         × (work.new ≡ cleared work.old) }
 {
     let n = px.len();
-    fill_rows(
-        m,
-        powers,
-        logs,
-        k,
-        places,
-        px,
-        l,
-        u,
-        a,
-        b,
-        &mut work[..n],
-        out,
-    );
+    fill_rows(field, k, places, px, l, u, a, b, &mut work[..n], out);
     clear_room(work);
 }

@@ -1,159 +1,106 @@
 // Heard beside a plain listing of a mask's bits.
-ghost use Rattle.std.specs.Prelude.{◌≤◌, ◌+◌, length};
+ghost use Rattle.std.specs.Prelude.{◌<◌, ◌≤◌, length};
 
+use basics::Refusal;
 use code::heard::heard;
 use codewords::Parameters;
-use trials::lists::{same_places, symbol_at};
+use trials::memory::MOST;
 use trials::random::below;
-use trials::tally::{Tally, count_of, number_of};
+use trials::tally::Tally;
 
-// How many bits are set, and the place of the last of them.
-#[derive(Clone, Copy)]
-struct Listed {
-    count: usize,
-    last: usize,
-}
+// The bits of a mask.
+const BITS: usize = 320;
 
-// A buffer before the call: no entry is a place.
-fn unheard() -> [u16; 288] {
-    [60000; 288]
-}
+// What stands in a buffer before the call: no place.
+const UNHEARD: u16 = 60000;
 
-// A mask of no place.
-fn silence() -> [u8; 40] {
-    [0; 40]
-}
-
-// A byte where its lowest bit has its turn, else what its lower bits leave of it.
-fn from_bit(mask: &[u8], i: usize, rest: u8) -> u8 {
-    if i % 8 == 0 {
-        symbol_at(mask, i / 8)
-    } else {
-        rest / 2
-    }
-}
-
-fn put(list: &mut [u16], i: usize, place: usize)
-    requires { place ≤ 320 }
+fn is_set(mask: &[u8; 40], i: usize) -> bool
+    requires { i < 320 }
 {
-    if i < list.len() {
-        list[i] = place as u16;
-    }
+    mask[i / 8] >> (i % 8) & 1 == 1
 }
 
-// One place more at the end of the list.
-fn append(list: &mut [u16], listed: Listed, place: usize) -> Listed
-    requires { (listed.count ≤ 320) × (place ≤ 320) }
-    ensures { result.count ≤ listed.count + 1 }
+fn set(mask: &mut [u8; 40], i: usize)
+    requires { i < 320 }
 {
-    let n = listed.count;
-    put(list, n, place);
-    Listed {
-        count: n + 1,
-        last: place,
-    }
+    mask[i / 8] |= 1 << (i % 8);
 }
 
-// The same if the bit that is the lowest of `rest` is set.
-fn append_set(list: &mut [u16], listed: Listed, place: usize, rest: u8) -> Listed
-    requires { (listed.count ≤ 320) × (place ≤ 320) }
-    ensures { result.count ≤ listed.count + 1 }
+// Whether a bit past the first n is set.
+fn any_past(mask: &[u8; 40], n: usize) -> bool {
+    for i in n..BITS {
+        if is_set(mask, i) {
+            return true;
+        }
+    }
+    false
+}
+
+// What Heard answers, and where it accepts, the places of the set bits in front of the list.
+fn list_bits(mask: &[u8; 40], n: usize, list: &mut [u16; MOST]) -> Result<usize, Refusal>
+    requires { n ≤ 288 }
 {
-    if rest % 2 == 1 {
-        return append(list, listed, place);
+    if any_past(mask, n) {
+        return Err(Refusal::Place);
     }
-    listed
-}
-
-// The places of the set bits to the front of the list.
-fn list_bits(mask: &[u8], list: &mut [u16]) -> Listed {
-    let mut listed = Listed { count: 0, last: 0 };
-    let mut rest: u8 = 0;
-    let mut i = 0;
-    while i < 320 {
-        rest = from_bit(mask, i, rest);
-        listed = append_set(list, listed, i + 1, rest);
-        i += 1;
+    let mut count = 0;
+    for i in 0..n {
+        if is_set(mask, i) {
+            list[count] = i as u16 + 1;
+            count += 1;
+        }
     }
-    listed
+    Ok(count)
 }
 
 // The answer, and all that stands in the buffer: 9 for a bit past n, and entries past the count keep their values.
-fn compare_heard(t: Tally, code: Parameters, xs: &[u8], ys: &[u8], mask: &[u8]) -> Tally {
-    let mut out = unheard();
-    let mut list = unheard();
+fn compare_heard(t: &mut Tally, code: Parameters, xs: &[u8], ys: &[u8], mask: &[u8; 40])
+    requires { length xs.now ≤ 288 }
+{
+    let mut out = [UNHEARD; MOST];
+    let mut list = [UNHEARD; MOST];
     let answer = heard(code, xs, ys, mask, &mut out);
-    let listed = list_bits(mask, &mut list);
-    if listed.last > xs.len() {
-        return t.compared(number_of(answer) == 9 && same_places(&out, &unheard()));
-    }
-    let counted = number_of(answer) == 99 && count_of(answer) == listed.count;
-    t.compared(counted && same_places(&out, &list))
-}
-
-// Sets bit i.
-fn set_bit(mask: &mut [u8], i: usize) {
-    let b = i / 8;
-    if b < mask.len() {
-        let v = mask[b] | 1 << (i % 8);
-        mask[b] = v;
-    }
-}
-
-// The bits of a number up to 255.
-fn set_first(mask: &mut [u8], v: u32) {
-    if mask.len() > 0 {
-        mask[0] = (v % 256) as u8;
-    }
-}
-
-fn maybe_set(state: &mut u64, dense: usize, mask: &mut [u8], i: usize) {
-    if below(state, 4) < dense {
-        set_bit(mask, i);
-    }
-}
-
-// Some of the first n bits: none, a quarter, a half, three quarters or all of them.
-fn draw_bits(state: &mut u64, n: usize, mask: &mut [u8]) {
-    let dense = below(state, 5);
-    let mut i = 0;
-    while i < n {
-        maybe_set(state, dense, mask, i);
-        i += 1;
-    }
+    let expected = list_bits(mask, xs.len(), &mut list);
+    t.compared(answer == expected && out == list);
 }
 
 // The mask, and the same with a bit past n.
 fn try_bits(
-    t: Tally,
+    t: &mut Tally,
     state: &mut u64,
     code: Parameters,
     xs: &[u8],
     ys: &[u8],
-    mask: &mut [u8],
-) -> Tally
+    mask: &mut [u8; 40],
+)
     requires { length xs.now ≤ 288 }
 {
     let n = xs.len();
-    let u = compare_heard(t, code, xs, ys, mask).chosen(false);
-    set_bit(mask, n + below(state, 320 - n));
-    compare_heard(u, code, xs, ys, mask)
+    compare_heard(t, code, xs, ys, mask);
+    t.chosen(false);
+    set(mask, n + below(state, BITS - n));
+    compare_heard(t, code, xs, ys, mask);
 }
 
 // A trial of a mask of the first eight places.
-pub fn try_first(t: Tally, state: &mut u64, code: Parameters, xs: &[u8], ys: &[u8], v: u32) -> Tally
+pub fn try_first(t: &mut Tally, state: &mut u64, code: Parameters, xs: &[u8], ys: &[u8], first: u8)
     requires { length xs.now ≤ 288 }
 {
-    let mut mask = silence();
-    set_first(&mut mask, v);
-    try_bits(t, state, code, xs, ys, &mut mask)
+    let mut mask = [0; 40];
+    mask[0] = first;
+    try_bits(t, state, code, xs, ys, &mut mask);
 }
 
-// A trial of a random mask.
-pub fn try_random(t: Tally, state: &mut u64, code: Parameters, xs: &[u8], ys: &[u8]) -> Tally
+// A trial of a random mask: some of the first n bits, none, a quarter, a half, three quarters or all of them.
+pub fn try_random(t: &mut Tally, state: &mut u64, code: Parameters, xs: &[u8], ys: &[u8])
     requires { length xs.now ≤ 288 }
 {
-    let mut mask = silence();
-    draw_bits(state, xs.len(), &mut mask);
-    try_bits(t, state, code, xs, ys, &mut mask)
+    let mut mask = [0; 40];
+    let dense = below(state, 5);
+    for i in 0..xs.len() {
+        if below(state, 4) < dense {
+            set(&mut mask, i);
+        }
+    }
+    try_bits(t, state, code, xs, ys, &mut mask);
 }

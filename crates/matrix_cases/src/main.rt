@@ -8,11 +8,13 @@ mod matrices;
 mod random_codes;
 mod small_codes;
 
+use trials::tally::finish;
+
 fn main() {
     small_codes::all_a();
     small_codes::all_b();
     small_codes::heard();
     random_codes::fields();
     random_codes::large();
-    eighty::eighty();
+    finish(eighty::eighty());
 }

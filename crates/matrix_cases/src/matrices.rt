@@ -1,176 +1,79 @@
 // Matrix beside the second coder: its rows are the words of the unit messages.
 ghost use Rattle.std.specs.Prelude.{◌≤◌, length};
 
+use basics::Refusal;
 use codewords::Parameters;
 use matrix::operation::matrix;
 use trials::choose::choose;
-use trials::lists::{fill, symbol_at};
-use trials::memory::{UNWRITTEN, matrix_room, places, symbols, working};
+use trials::memory::{MATRIX, MOST, UNWRITTEN, WORKING};
 use trials::second::word_of;
-use trials::tally::{Tally, number_of};
-
-// The message that is 1 at one index.
-fn unit(message: &mut [u8], i: usize) {
-    fill(message, 0);
-    if i < message.len() {
-        message[i] = 1;
-    }
-}
-
-// Whether the row that starts at an index is the word.
-fn is_row(rows: &[u8], start: usize, word: &[u8]) -> bool
-    requires { start ≤ 82944 }
-{
-    let mut i = 0;
-    while i < word.len() {
-        if symbol_at(rows, start + i) != word[i] {
-            return false;
-        }
-        i += 1;
-    }
-    true
-}
+use trials::tally::Tally;
 
 // Every row is compared, or every 16th of more than 60.
 fn is_compared(k: usize, i: usize) -> bool {
     k <= 60 || i % 16 == 0
 }
 
-// Row i, which starts at the given index. The message and the word are lent.
-fn compare_row(
-    t: Tally,
-    m: u8,
-    xs: &[u8],
-    ys: &[u8],
-    places: &[u16],
-    rows: &[u8],
-    i: usize,
-    start: usize,
-    message: &mut [u8],
-    word: &mut [u8],
-) -> Tally
-    requires { (length places.now ≤ 288) × (start ≤ 82944) }
-{
-    if !is_compared(places.len(), i) {
-        return t;
-    }
-    unit(message, i);
-    let found = word_of(m, xs, ys, places, message, word);
-    t.compared(found.taken && is_row(rows, start, word))
-}
-
-fn compare_rows(
-    begun: Tally,
-    m: u8,
-    xs: &[u8],
-    ys: &[u8],
-    places: &[u16],
-    rows: &[u8],
-    message: &mut [u8],
-    word: &mut [u8],
-) -> Tally
+// Row i.
+fn compare_row(t: &mut Tally, m: u8, xs: &[u8], ys: &[u8], places: &[u16], i: usize, row: &[u8])
     requires { (length xs.now ≤ 288) × (length places.now ≤ 288) }
 {
-    let n = xs.len();
-    let mut t = begun;
-    let mut start = 0;
-    let mut i = 0;
-    while i < places.len() {
-        t = compare_row(t, m, xs, ys, places, rows, i, start, message, word);
-        start += n;
-        i += 1;
+    let mut message = [0; MOST];
+    let mut word = [0; MOST];
+    let message = &mut message[..places.len()];
+    let word = &mut word[..xs.len()];
+    if let Some(symbol) = message.get_mut(i) {
+        *symbol = 1;
     }
-    t
+    let found = word_of(m, xs, ys, places, message, word);
+    t.compared(found.is_ok() && row == &*word);
 }
 
 // Whether the second coder finds the places dependent.
-fn are_dependent(
-    m: u8,
-    xs: &[u8],
-    ys: &[u8],
-    places: &[u16],
-    message: &[u8],
-    word: &mut [u8],
-) -> bool
-    requires { length places.now ≤ 288 }
-{
-    let found = word_of(m, xs, ys, places, message, word);
-    found.rank < places.len()
-}
-
-// What Matrix answered and wrote at k places: 12 where they are dependent, else the rows.
-fn compare_answer(
-    t: Tally,
-    number: u64,
-    m: u8,
-    xs: &[u8],
-    ys: &[u8],
-    places: &[u16],
-    rows: &[u8],
-    message: &mut [u8],
-    word: &mut [u8],
-) -> Tally
+fn are_dependent(m: u8, xs: &[u8], ys: &[u8], places: &[u16]) -> Result<bool, Refusal>
     requires { (length xs.now ≤ 288) × (length places.now ≤ 288) }
 {
-    if are_dependent(m, xs, ys, places, message, word) {
-        return t.chosen(true).compared(number == 12);
-    }
-    let u = t.chosen(false).compared(number == 0);
-    compare_rows(u, m, xs, ys, places, rows, message, word)
+    let k = places.len();
+    let found = word_of(
+        m,
+        xs,
+        ys,
+        places,
+        &[0; MOST][..k],
+        &mut [0; MOST][..xs.len()],
+    )?;
+    Ok(found.rank < k)
 }
 
-fn compare_matrix(
-    t: Tally,
-    code: Parameters,
-    xs: &[u8],
-    ys: &[u8],
-    places: &[u16],
-    rows: &mut [u8],
-    message: &mut [u8],
-    word: &mut [u8],
-) -> Tally
-    requires { (length xs.now ≤ 288) × (length places.now ≤ 288) }
-{
-    fill(rows, UNWRITTEN);
-    let number = number_of(matrix(code, xs, ys, places, rows, &mut working()));
-    compare_answer(t, number, code.field, xs, ys, places, rows, message, word)
-}
-
-// How many symbols k rows of n have.
-fn area(k: usize, n: usize) -> usize
-    requires { (k ≤ 288) × (n ≤ 288) }
-    ensures { result ≤ 82944 }
-{
-    k * n
-}
-
-// A trial with lists of its own, at the k places of a mask, or at random ones where it is 0.
+// A trial at the k places of a mask, or at random ones where there is none: dependent places are refused, and else the rows are the words.
 pub fn try_matrix(
-    t: Tally,
+    t: &mut Tally,
     state: &mut u64,
     code: Parameters,
     xs: &[u8],
     ys: &[u8],
-    mask: u32,
-) -> Tally
+    mask: Option<u32>,
+)
     requires { (length xs.now ≤ 288) × (code.k ≤ 288) }
 {
     let n = xs.len();
     let k = code.k;
-    let size = area(k, n);
-    let mut chosen = places();
-    let mut rows = matrix_room();
-    let mut message = symbols();
-    let mut word = symbols();
-    choose(state, n, mask, &mut chosen);
-    compare_matrix(
-        t,
-        code,
-        xs,
-        ys,
-        &chosen[..k],
-        &mut rows[..size],
-        &mut message[..k],
-        &mut word[..n],
-    )
+    let mut places = [0; MOST];
+    choose(state, n, mask, &mut places);
+    let places = &places[..k];
+    let mut rows = [UNWRITTEN; MATRIX];
+    let rows = &mut rows[..k * n];
+    let answer = matrix(code, xs, ys, places, rows, &mut [0; WORKING]);
+    let dependent = are_dependent(code.field, xs, ys, places) == Ok(true);
+    t.chosen(dependent);
+    if dependent {
+        t.compared(answer == Err(Refusal::Dependent));
+        return;
+    }
+    t.compared(answer.is_ok());
+    for (i, row) in rows.chunks(n.max(1)).enumerate() {
+        if is_compared(k, i) {
+            compare_row(t, code.field, xs, ys, places, i, row);
+        }
+    }
 }

@@ -1,48 +1,31 @@
 // Random codes over each field: Matrix at a random choice of each, and Heard of a random mask.
-ghost use Rattle.std.specs.Prelude.{◌≤◌, length};
-
 use crate::heard::try_random;
 use crate::matrices::try_matrix;
-use codewords::Parameters;
 use trials::codes::draw_code;
-use trials::memory::symbols;
-use trials::tally::{Tally, close, nothing, show, write};
+use trials::memory::{MOST, SEED};
+use trials::tally::{Tally, close, show, write};
 
-// Heard of a random mask, or Matrix at a random choice.
-fn try_one(t: Tally, state: &mut u64, masks: bool, code: Parameters, xs: &[u8], ys: &[u8]) -> Tally
-    requires { (length xs.now ≤ 288) × (code.k ≤ 288) }
-{
-    if masks {
-        return try_random(t, state, code, xs, ys);
-    }
-    try_matrix(t, state, code, xs, ys, 0)
-}
-
-// A code of at most `most` points, if one is drawn.
-fn try_drawn(t: Tally, state: &mut u64, masks: bool, m: u8, most: usize) -> Tally {
-    let mut xs = symbols();
-    let mut ys = symbols();
-    let drawn = draw_code(state, m, most, &mut xs, &mut ys);
-    let n = drawn.n;
-    if n < 2 {
-        return t;
-    }
-    try_one(t, state, masks, drawn.code, &xs[..n], &ys[..n])
-}
-
+// Heard of random masks, or Matrix at random choices: of so many curves over field m, and at most `most` points of each.
 fn try_curves(masks: bool, m: u8, curves: u32, most: usize) -> Tally {
-    let mut state: u64 = 88172645463325252;
-    let mut t = nothing();
-    let mut i = 0;
-    while i < curves {
-        t = try_drawn(t, &mut state, masks, m, most);
-        i += 1;
+    let mut state = SEED;
+    let mut t = Tally::default();
+    for _ in 0..curves {
+        if let Some(drawn) = draw_code(&mut state, m, most) {
+            let n = drawn.n;
+            let xs = &drawn.xs[..n];
+            let ys = &drawn.ys[..n];
+            if masks {
+                try_random(&mut t, &mut state, drawn.code, xs, ys);
+            } else {
+                try_matrix(&mut t, &mut state, drawn.code, xs, ys, None);
+            }
+        }
     }
     t
 }
 
 fn matrix_line(m: u8, t: Tally) {
-    show(b"random codes, field ", m as u64);
+    show(b"random codes, field ", u64::from(m));
     show(b", Matrix: ", t.choices);
     show(b" choices, ", t.dependent);
     write(b" dependent");
@@ -50,7 +33,7 @@ fn matrix_line(m: u8, t: Tally) {
 }
 
 fn heard_line(m: u8, t: Tally) {
-    show(b"random codes, field ", m as u64);
+    show(b"random codes, field ", u64::from(m));
     show(b", Heard: ", t.choices);
     write(b" masks");
     close(t);
@@ -62,18 +45,16 @@ fn field(m: u8, curves: u32, most: usize) {
 }
 
 pub fn fields() {
-    field(2, 600, 288);
-    field(3, 600, 288);
-    field(4, 600, 288);
-    field(5, 600, 288);
-    field(6, 600, 48);
-    field(7, 600, 48);
-    field(8, 600, 48);
-    field(9, 600, 48);
+    for m in 2..=5 {
+        field(m, 600, MOST);
+    }
+    for m in 6..=9 {
+        field(m, 600, 48);
+    }
 }
 
 pub fn large() {
-    field(7, 12, 288);
-    field(8, 8, 288);
-    field(9, 8, 288);
+    field(7, 12, MOST);
+    field(8, 8, MOST);
+    field(9, 8, MOST);
 }

@@ -1,4 +1,5 @@
 -- The best word: a codeword, the earliest of the cheapest tried; and no codeword is cheaper by more than the gap.
+use Rattle.basics.specs.Outcome.{Done}
 use Prim.Native.Nat.{ℕ, zero, suc, ◌+◌, ◌<◌, ◌≤◌}
 use mathlib.Core.Path.{◌≡◌, sym, ◌∙◌, ap, subst}
 use mathlib.Core.Bool.{true}
@@ -9,7 +10,6 @@ use mathlib.Core.List.Memᴰ.{of_map as map-in}
 use mathlib.Core.List.{List, [], ◌∷◌, map, Memᴰ as In}
 use native.Mathlib.Omega.{arith}
 use lib.ListN.{length, get_or, length-map}
-use Rattle.basics.specs.declared.Answer.TheVariants.{Done}
 use Rattle.codewords.specs.Code.{Code, q, n, code_answer}
 use Rattle.codewords.specs.Codewords.{symbols, codeword}
 use Rattle.codewords.proofs.Tests.{in_all}

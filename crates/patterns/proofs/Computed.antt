@@ -1,10 +1,10 @@
 -- What the operation relies on holds of every accepted code.
+use Rattle.basics.specs.Outcome.{Done}
 use Prim.Native.Nat.{ℕ, zero, suc, ◌-◌, ◌≤◌}
 use mathlib.Core.Path.{◌≡◌, sym, ◌∙◌, ap}
 use mathlib.Core.Bool.{true}
 use mathlib.Core.List.{List}
 use native.Mathlib.Omega.{arith}
-use Rattle.basics.specs.declared.Answer.TheVariants.{Done}
 use lib.ListN.{length}
 use Rattle.codewords.specs.Code.{Code, q, n, code_answer}
 use Rattle.codewords.specs.Codewords.{symbols}

@@ -1,4 +1,5 @@
 -- The trusts of picked places never rise: Pick keeps the order of the ranking.
+use Rattle.basics.specs.Outcome.{Done}
 use Prim.Native.Nat.{ℕ, zero, suc, ◌-◌, ◌<◌, ◌≤◌}
 use mathlib.Core.Path.{◌≡◌, sym, subst}
 use mathlib.Core.Bool.{Bool, true, false, cond}
@@ -7,7 +8,6 @@ use mathlib.Core.List.{List, [], ◌∷◌, ◌++◌, map}
 use native.Mathlib.Omega.{arith}
 use native.Mathlib.Nat.{le_of_suc-le-suc}
 use lib.ListN.{length, get_or, take}
-use Rattle.basics.specs.declared.Answer.TheVariants.{Done}
 use Rattle.elliptic.proofs.Points.{All, All.nil, All.cons}
 use Rattle.codewords.specs.Code.{Code, n, code_answer}
 use Rattle.codewords.specs.Codewords.{usable, first_ranks, next_ranks}

@@ -1,4 +1,5 @@
 -- Codewords add up: a change of one more place adds a multiple of that place's row to the codeword.
+use Rattle.basics.specs.Outcome.{Done}
 use Prim.Native.Nat.{ℕ, zero, suc, ◌-◌, ◌<◌}
 use mathlib.Core.Path.{◌≡◌, refl, sym, ◌∙◌, ap, ap₂}
 use mathlib.Core.Bool.{true, cond}
@@ -10,12 +11,11 @@ use lib.Dec.{eqb}
 use lib.ListN.{length, get_or, set, length-set}
 use lib.Seq.{ext_get_or, get_or-set_same, get_or-set_other}
 use borrow.Author.Tests.{eq-eqb, ne_eqb}
-use Rattle.basics.specs.declared.Answer.TheVariants.{Done}
 use Rattle.basics.proofs.Lists.{get_or_map_in, get_or_table}
 use Rattle.field.specs.Sum.{◌⊕◌}
 use Rattle.field.specs.Field.{Arithmetic}
 use Rattle.field.proofs.Sum.{⊕_zero}
-use Rattle.field.proofs.Field.{mul_one, ·_zero}
+use Rattle.field.proofs.Laws.{mul_one, ·_zero}
 use Rattle.elliptic.specs.declared.Point.{Point}
 use Rattle.elliptic.specs.Functions.{value}
 use Rattle.elliptic.specs.Pair.{add_scaled}

@@ -1,4 +1,5 @@
 -- What request S-7 promises holds of every accepted code, every received word of n symbols and every n trusts.
+use Rattle.basics.specs.Outcome.{Done}
 use Prim.Native.Nat.{ℕ, ◌<◌}
 use mathlib.Core.Path.{◌≡◌, refl}
 use mathlib.Core.Bool.{true}
@@ -6,7 +7,6 @@ use mathlib.Core.List.{List, [], Memᴰ as In}
 use lib.Dec.{eqb}
 use lib.ListN.{length, get_or}
 use borrow.Author.Tests.{eqb-true, eq-eqb}
-use Rattle.basics.specs.declared.Answer.TheVariants.{Done}
 use Rattle.codewords.specs.Code.{Code, q, n, code_answer}
 use Rattle.codewords.specs.Codewords.{symbols}
 use Rattle.codewords.proofs.Tests.{true_any}

@@ -12,7 +12,7 @@ use borrow.Author.Tests.{eq-eqb, ne_eqb}
 use Rattle.field.specs.Sum.{◌⊕◌}
 use Rattle.field.specs.Field.{Arithmetic, Field}
 use Rattle.field.proofs.Sum.{⊕_assoc, ⊕_self, ⊕_eq, ⊕_zero}
-use Rattle.field.proofs.Field.{·_comm, ·_zero, mul_one, inv_cancel}
+use Rattle.field.proofs.Laws.{·_comm, ·_zero, mul_one, inv_cancel}
 use Rattle.elliptic.specs.Pair.{add_scaled}
 use Rattle.elliptic.proofs.Points.{All, All.nil, All.cons}
 use Rattle.patterns.specs.Cheapest.{differing, weigh}

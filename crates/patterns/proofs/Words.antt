@@ -1,4 +1,5 @@
 -- The picked places are a usable choice, so that changes of them and codewords belong to one another one to one.
+use Rattle.basics.specs.Outcome.{Done}
 use Prim.Native.Nat.{ℕ, ◌-◌, ◌<◌}
 use mathlib.Core.Path.{◌≡◌, refl, sym, ◌∙◌, ap, subst}
 use mathlib.Core.Bool.{true}
@@ -7,7 +8,6 @@ use mathlib.Core.List.Memᴰ.{head as here}
 use mathlib.Core.List.{List, [], ◌∷◌, Memᴰ as In}
 use native.Mathlib.Omega.{arith}
 use lib.ListN.{length, length-map}
-use Rattle.basics.specs.declared.Answer.TheVariants.{Done}
 use Rattle.basics.specs.Lists.{filter, same}
 use Rattle.basics.proofs.Lists.{same_true, same_refl, eq_same}
 use Rattle.elliptic.proofs.Points.{All, All.nil, All.cons}

@@ -15,7 +15,7 @@ use Rattle.basics.proofs.Lists.{both_left, both_right, length_table, get_or_tabl
 use Rattle.field.specs.Sum.{◌⊕◌}
 use Rattle.field.specs.Field.{Arithmetic, Field}
 use Rattle.field.proofs.Sum.{⊕_zero, zero_⊕, ⊕_self}
-use Rattle.field.proofs.Field.{mul_one, ·_comm, zero_lt}
+use Rattle.field.proofs.Laws.{mul_one, ·_comm, zero_lt}
 use Rattle.elliptic.specs.Pair.{add_scaled}
 use Rattle.elliptic.proofs.Points.{All, All.nil, All.cons}
 use Rattle.codewords.specs.Code.{Code, arithmetic, q, n}

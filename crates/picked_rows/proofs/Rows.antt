@@ -1,5 +1,6 @@
 -- What the rows leave of 1 while they are added, a row by the parts that its factors give and by what is left, and both of the arrays that the working
 -- space holds one behind the other.
+use Rattle.basics.specs.Outcome.{Done}
 use Prim.Native.Nat.{ℕ, ◌+◌, ◌*◌, ◌-◌, ◌<◌, ◌≤◌}
 use mathlib.Core.Path.{◌≡◌, refl, sym, ◌∙◌, ap}
 use mathlib.Core.List.{List}
@@ -10,7 +11,6 @@ use borrow.Author.Tests.{eq-eqb, ne_eqb}
 use lib.ListN.{length, get_or, take, drop}
 use Rattle.basics.specs.Lists.{table}
 use Rattle.basics.proofs.Lists.{get_or_table}
-use Rattle.basics.specs.declared.Answer.TheVariants.{Done}
 use Rattle.field.specs.Sum.{◌⊕◌}
 use Rattle.field.proofs.Sum.{⊕_assoc, ⊕_zero}
 use Rattle.codewords.specs.Code.{Code, n, code_answer}

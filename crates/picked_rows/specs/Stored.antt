@@ -1,8 +1,8 @@
 -- What the working space holds of the rows at picked places J: arrays of n bytes one behind the other, namely the first coordinates with those of the
 -- picked places first, L and U by their values, two factors a row with the indices of the free points behind them, what all rows leave of 1, and the
 -- difference of the received word and the codeword that agrees with it at the picked places.
+use Rattle.basics.specs.Outcome.{Done}
 use Rattle.std.specs.Prelude.{ℕ, ◌*◌, ◌-◌, ◌<◌, ◌≤◌, ◌≡◌, true, List, length, get_or, set, drop}
-use Rattle.basics.specs.declared.Answer.TheVariants.{Done}
 use Rattle.basics.specs.Lists.{table}
 use Rattle.codewords.specs.Code.{Code, n, code_answer}
 use Rattle.codewords.specs.Codewords.{index, symbols, row}

@@ -1,7 +1,6 @@
 // What the rows are made of, from the picked places: in own arrays while it is computed, and then in the working space.
 ghost use Rattle.std.specs.Prelude.{◌≡◌, ◌*◌, ◌≤◌, length};
-ghost use Rattle.field.specs.Tables.{Tables};
-ghost use Rattle.codewords.specs.Code.{code_of};
+ghost use Rattle.code.specs.Shown.{shown};
 ghost use Rattle.solving.specs.Given.{Works};
 ghost use Rattle.arrangement.specs.Arranged.{Places, Apart};
 ghost use Rattle.generator.specs.Rows.{Behind};
@@ -9,18 +8,14 @@ ghost use Rattle.matrix.specs.Given.{Sized, frees, part};
 ghost use Rattle.picked_rows.specs.Stored.{Factored, Put, PutFour, Stored, Spared};
 
 use basics::MessageIndex;
-use codewords::Parameters;
+use code::accepted::Code;
 use engine::slices::copy;
 use generator::factors::rows_turn;
 use matrix::write::{begin_rows, index_rest};
 
 // The factors of all rows.
 fn factor_rows(
-    p: Parameters,
-    powers: &[u8; 1021],
-    logs: &[u16; 512],
-    xs: &[u8],
-    ys: &[u8],
+    code: &Code,
     places: &[u16],
     px: &mut [u8],
     l: &mut [u8],
@@ -28,14 +23,13 @@ fn factor_rows(
     a: &mut [u8],
     b: &mut [u8],
 )
-    requires tables { Tables p.field powers.now logs.now }
-    requires works { Works (code_of p xs.now ys.now) places.now × Sized (length xs.now) px.old l.old u.old a.old b.old }
-    ensures { Factored (code_of p xs.now ys.now) places.now px.new l.new u.new a.new b.new }
+    requires works { Works (shown code.now) places.now × Sized (length code.now.xs.now) px.old l.old u.old a.old b.old }
+    ensures { Factored (shown code.now) places.now px.new l.new u.new a.new b.new }
 {
-    let z = begin_rows(p, powers, logs, xs, ys, places, px, l, u, a, b);
-    let k = p.k;
+    let z = begin_rows(code, places, px, l, u, a, b);
+    let k = code.k;
     let last = k - 1;
-    rows_turn(p.field, powers, logs, MessageIndex(last), px, l, u, a, b, z);
+    rows_turn(code.field, MessageIndex(last), px, l, u, a, b, z);
 }
 
 // An array becomes the one of index i in the working space.
@@ -76,11 +70,7 @@ fn index_points(k: usize, places: &[u16], a: &mut [u8], b: &mut [u8], work: &mut
 
 // What the rows are made of, to the working space. Arrays are lent while it is computed.
 fn begin_in(
-    p: Parameters,
-    powers: &[u8; 1021],
-    logs: &[u16; 512],
-    xs: &[u8],
-    ys: &[u8],
+    code: &Code,
     places: &[u16],
     l: &mut [u8],
     u: &mut [u8],
@@ -88,48 +78,25 @@ fn begin_in(
     b: &mut [u8],
     work: &mut [u8],
 )
-    requires tables { Tables p.field powers.now logs.now }
-    requires works { Works (code_of p xs.now ys.now) places.now × Sized (length xs.now) xs.now l.old u.old a.old b.old × (7 * length xs.now ≤ length work.old) }
-    ensures { Stored (code_of p xs.now ys.now) places.now work.new
-        × Spared (length xs.now) work.old work.new }
+    requires works { Works (shown code.now) places.now × Sized (length code.now.xs.now) code.now.xs.now l.old u.old a.old b.old × (7 * length code.now.xs.now ≤ length work.old) }
+    ensures { Stored (shown code.now) places.now work.new
+        × Spared (length code.now.xs.now) work.old work.new }
 {
-    let n = xs.len();
-    factor_rows(p, powers, logs, xs, ys, places, &mut work[..n], l, u, a, b);
-    index_points(p.k, places, a, b, work);
+    let n = code.xs.len();
+    factor_rows(code, places, &mut work[..n], l, u, a, b);
+    index_points(code.k, places, a, b, work);
     store_four(l, u, a, b, work);
 }
 
 // The same with arrays of its own, 864 bytes, and one that is lent.
-pub fn begin(
-    p: Parameters,
-    powers: &[u8; 1021],
-    logs: &[u16; 512],
-    xs: &[u8],
-    ys: &[u8],
-    places: &[u16],
-    b: &mut [u8],
-    work: &mut [u8],
-)
-    requires tables { Tables p.field powers.now logs.now }
-    requires works { Works (code_of p xs.now ys.now) places.now × (length b.old ≡ length xs.now) × (7 * length xs.now ≤ length work.old) }
-    ensures { Stored (code_of p xs.now ys.now) places.now work.new
-        × Spared (length xs.now) work.old work.new }
+pub fn begin(code: &Code, places: &[u16], b: &mut [u8], work: &mut [u8])
+    requires works { Works (shown code.now) places.now × (length b.old ≡ length code.now.xs.now) × (7 * length code.now.xs.now ≤ length work.old) }
+    ensures { Stored (shown code.now) places.now work.new
+        × Spared (length code.now.xs.now) work.old work.new }
 {
-    let n = xs.len();
+    let n = code.xs.len();
     let mut l = [0u8; 288];
     let mut u = [0u8; 288];
     let mut a = [0u8; 288];
-    begin_in(
-        p,
-        powers,
-        logs,
-        xs,
-        ys,
-        places,
-        &mut l[..n],
-        &mut u[..n],
-        &mut a[..n],
-        b,
-        work,
-    );
+    begin_in(code, places, &mut l[..n], &mut u[..n], &mut a[..n], b, work);
 }

@@ -1,23 +1,21 @@
 // A row of the matrix, from what the working space holds.
 ghost use Rattle.std.specs.Prelude.{◌≡◌, ◌<◌, ◌≤◌, length};
-ghost use Rattle.field.specs.Tables.{Tables};
-ghost use Rattle.codewords.specs.Code.{code_of};
+ghost use Rattle.code.specs.Shown.{shown};
 ghost use Rattle.codewords.specs.Codewords.{row};
 ghost use Rattle.generator.specs.Rows.{Slots};
 ghost use Rattle.solving.specs.Given.{Works};
 ghost use Rattle.picked_rows.specs.Stored.{Left, Summed, Writes};
 
 use basics::{MessageIndex, Place};
-use codewords::Parameters;
+use code::accepted::Code;
 use engine::places::chosen_place;
 use engine::slices::clear;
+use field::Field;
 use generator::entries::{complete_row, fill_row};
 
 // The row of an index, in a clear array. What filling it adds to sums goes to an array that is lent for that.
 fn write_row(
-    m: u8,
-    powers: &[u8; 1021],
-    logs: &[u16; 512],
+    field: &Field,
     index: MessageIndex,
     place: Place,
     k: usize,
@@ -30,33 +28,21 @@ fn write_row(
     spare: &mut [u8],
     row: &mut [u8],
 )
-    requires tables { Tables m powers.now logs.now }
     requires slots { Slots k px.now a.now b.now sums.now row.old × (length l.now ≡ length px.now) × (length u.now ≡ length px.now) × (length spare.old ≡ length px.now)
-        × (index.0 < k) × (1 ≤ place.0) × (place.0 ≤ length px.now) × Left m k px.now l.now u.now a.now b.now sums.now }
-    ensures { Writes m k index.0 place.0 px.now l.now u.now a.now b.now row.new }
+        × (index.0 < k) × (1 ≤ place.0) × (place.0 ≤ length px.now) × Left field.now.number k px.now l.now u.now a.now b.now sums.now }
+    ensures { Writes field.now.number k index.0 place.0 px.now l.now u.now a.now b.now row.new }
 {
     clear(row);
-    fill_row(m, powers, logs, index, k, px, l, u, a, b, spare, row);
+    fill_row(field, index, k, px, l, u, a, b, spare, row);
     complete_row(index, place, k, px, a, b, sums, row);
 }
 
 // The same, of what the working space holds.
-pub fn picked_row(
-    p: Parameters,
-    powers: &[u8; 1021],
-    logs: &[u16; 512],
-    xs: &[u8],
-    ys: &[u8],
-    places: &[u16],
-    work: &[u8],
-    index: MessageIndex,
-    out: &mut [u8],
-)
-    requires tables { Tables p.field powers.now logs.now }
-    requires works { Works (code_of p xs.now ys.now) places.now × Summed (code_of p xs.now ys.now) places.now work.now × (length out.old ≡ length xs.now) × (index.0 < p.k) }
-    ensures { out.new ≡ row (code_of p xs.now ys.now) places.now index }
+pub fn picked_row(code: &Code, places: &[u16], work: &[u8], index: MessageIndex, out: &mut [u8])
+    requires works { Works (shown code.now) places.now × Summed (shown code.now) places.now work.now × (length out.old ≡ length code.now.xs.now) × (index.0 < code.now.k) }
+    ensures { out.new ≡ row (shown code.now) places.now index }
 {
-    let n = xs.len();
+    let n = code.xs.len();
     let n2 = n + n;
     let n3 = n2 + n;
     let n4 = n3 + n;
@@ -65,12 +51,10 @@ pub fn picked_row(
     let mut spare = [0u8; 288];
     let place = chosen_place(places, index);
     write_row(
-        p.field,
-        powers,
-        logs,
+        code.field,
         index,
         place,
-        p.k,
+        code.k,
         &work[..n],
         &work[n..n2],
         &work[n2..n3],

@@ -7,7 +7,7 @@ use native.Mathlib.Decide.{ℕ_discrete}
 use native.Mathlib.Omega.{arith}
 use Rattle.field.specs.Sum.{◌⊕◌}
 use Rattle.field.specs.Field.{Arithmetic, Field}
-use Rattle.field.proofs.Field.{ring, root, root_square, mul_one, inv_cancel, inv_unique, no_zero_div, ·_comm, ·_assoc, ·_zero, zero_·}
+use Rattle.field.proofs.Laws.{ring, root, root_square, mul_one, inv_cancel, inv_unique, no_zero_div, ·_comm, ·_assoc, ·_zero, zero_·}
 use Rattle.elliptic.specs.declared.Curve.{Curve}
 use Rattle.elliptic.specs.Curve.{left, right, coefficients_below}
 use Rattle.point_count.proofs.Singular.{coefficient, g1_lt, g3_lt, right_lt, trace_flat}

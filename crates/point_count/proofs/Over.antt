@@ -13,7 +13,7 @@ use borrow.Author.Tests.{leb-true, le-leb, eq-eqb}
 use Rattle.basics.specs.Lists.{filter}
 use Rattle.field.specs.Sum.{◌⊕◌}
 use Rattle.field.specs.Field.{Arithmetic, Field, pow}
-use Rattle.field.proofs.Field.{ring, pow_add, pow_lt, inv_cancel, ·_comm, ·_zero, zero_·}
+use Rattle.field.proofs.Laws.{ring, pow_add, pow_lt, inv_cancel, ·_comm, ·_zero, zero_·}
 use Rattle.elliptic.specs.declared.Curve.{Curve}
 use Rattle.elliptic.specs.declared.Point.{Point}
 use Rattle.elliptic.specs.Curve.{coefficients_below, singular}

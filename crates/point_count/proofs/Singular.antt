@@ -9,7 +9,7 @@ use lib.ListN.{get_or}
 use Rattle.basics.proofs.Lists.{all_get, both}
 use Rattle.field.specs.Sum.{◌⊕◌}
 use Rattle.field.specs.Field.{Arithmetic, Field}
-use Rattle.field.proofs.Field.{root, root_square, pow_lt, inv_cancel, mul_one, ·_comm, ·_left_comm, zero_·}
+use Rattle.field.proofs.Laws.{root, root_square, pow_lt, inv_cancel, mul_one, ·_comm, ·_left_comm, zero_·}
 use Rattle.field.proofs.Sum.{⊕_assoc, ⊕_eq, ⊕_self, ⊕_zero, zero_⊕}
 use Rattle.elliptic.specs.declared.Curve.{Curve}
 use Rattle.elliptic.specs.Curve.{point, left, right, on_curve, singular_at, singular}

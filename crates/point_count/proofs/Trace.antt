@@ -15,7 +15,7 @@ use Rattle.field.specs.Field.{Arithmetic, pow}
 use Rattle.field.specs.Galois.{IsField, rows, size, width, product, generator, inverse, galois}
 use Rattle.field.specs.Tables.{powers, position, logarithm}
 use Rattle.field.proofs.Sum.{digit, zero_⊕, ⊕_digit, ⊕_shift, ⊕_swap}
-use Rattle.field.proofs.Field.{inv_unique}
+use Rattle.field.proofs.Laws.{inv_unique}
 use Rattle.field.proofs.Computed.{all_below, each_field}
 use Rattle.field.proofs.Galois.{galois_field, remainder_small, log_none, pow_log}
 use Rattle.field.proofs.Lookup.{none_inverse}

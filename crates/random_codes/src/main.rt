@@ -5,8 +5,10 @@
 mod codes;
 mod eighty;
 
+use trials::tally::finish;
+
 fn main() {
     codes::random_codes();
     codes::large_codes();
-    eighty::eighty();
+    finish(eighty::eighty());
 }

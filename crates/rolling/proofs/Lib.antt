@@ -1,5 +1,4 @@
 -- The laws of the rolling mean.
-mod Shift
 mod Totals
 pub mod InBytes
 mod Steps

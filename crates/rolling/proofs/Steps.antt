@@ -1,6 +1,6 @@
--- What the code's tests say of a step: a refusal hands back the state, and a state that passes still holds means one hour further.
+-- What the code's tests say of a step: a state that passes still holds means one hour further, and a call on the bytes answers as the step does.
 use Prim.Native.Nat.{ℕ, ◌^◌, ◌≤◌}
-use mathlib.Core.Path.{◌≡◌, refl, ◌∙◌, ap}
+use mathlib.Core.Path.{◌≡◌, refl, sym, ◌∙◌, ap}
 use mathlib.Core.Logic.{◌⊎◌, inl, inr, ⊎_elim}
 use native.Mathlib.Omega.{arith}
 use mathlib.Core.Bool.{Bool, true, false, ◌&&◌}
@@ -10,13 +10,11 @@ use lib.Dec.{leb, eqb}
 use lib.IntN.{ℤ}
 use lib.ListN.{length, take, drop, set}
 use Rattle.basics.specs.Lists.{all}
-use Rattle.basics.specs.Outcome.{Outcome, refused, accepted, check, answer, left, Meets}
-use Rattle.basics.specs.declared.Answer.{Answer}
-use Rattle.basics.specs.declared.Answer.TheVariants.{Done, Refused}
+use Rattle.basics.specs.Outcome.{Answer, Done, Refused, Outcome, refused, accepted, check, answer, left, Meets}
 use Rattle.basics.specs.declared.Refusal.{Refusal}
 use Rattle.basics.specs.declared.Refusal.TheVariants.{Reading, NoRun}
 use Rattle.basics.proofs.Lists.{both_left, both_right, both_true, all_take}
-use Rattle.basics.proofs.Outcomes.{refuse, pass, accept_pair, meets_as}
+use Rattle.basics.proofs.Outcomes.{pass, accept_pair, meets_as}
 use Rattle.hours.specs.Means.{absent}
 use Rattle.hours.specs.Packing.{valid, encode, is_code}
 use Rattle.hours.proofs.Numbers.{encode_code}
@@ -24,10 +22,8 @@ use Rattle.rolling.specs.declared.state.RollingState.{RollingState}
 use Rattle.rolling.specs.State.{absent_code, possible, continues, advanced, figure, tested, step_outcome}
 use Rattle.rolling.specs.Bytes.{state_bytes, state_from, rolling_outcome}
 
--- a refusal, with the state that went in and no mean
-pub handed_back : {b : Bool} {e : Refusal} (o : Outcome (RollingState × ℤ)) {a : Answer} {s new : RollingState} {m : ℤ} → b ≡ false
-    → (a ≡ Refused e) × (new ≡ s) × (m ≡ absent) → Meets (check b e o) a (s, absent) (new, m)
-handed_back o h r = rw (r.0, r.1, r.2) (refuse o h)
+unlike : {e : Refusal} → ◌≡◌ {A = Answer} Done (Refused e) → ⊥
+unlike q = let z : ◌≡◌ {A = ℕ} 0 1 = cc in omega arith
 
 -- two outcomes with the same tests: both end, the one in m and the other in q, or both refuse alike
 module _ {M N : Type 0} where
@@ -46,15 +42,12 @@ module _ {M N : Type 0} where
   both_end : (m : M) (q : Outcome N) {o : Outcome M} {p : Outcome N} {old new : M} → Alike m q o p → Meets o Done old new → (new ≡ m) × (p ≡ q)
   unfolding answer left
   both_end m q h t = ⊎_elim (λ k. (t.leaves ∙ ap (left _) k.0, k.1)) (λ k. absurd (unlike (t.answers ∙ ap answer k.1))) h
-    where
-      unlike : {e : Refusal} → ◌≡◌ {A = Answer} Done (Refused e) → ⊥
-      unlike q = let z : ◌≡◌ {A = ℕ} 0 1 = cc in omega arith
 
-  both_stop : (m : M) (q : Outcome N) {o : Outcome M} {p : Outcome N} {a : Answer} {old new : M} (old' : N) → Alike m q o p → Meets o a old new → (a ≡ Done → ⊥)
-      → Meets p a old' old'
+  both_stop : (m : M) (q : Outcome N) {o : Outcome M} {p : Outcome N} {e : Refusal} {old new : M} (old' : N) → Alike m q o p → Meets o (Refused e) old new
+      → Meets p (Refused e) old' old'
   unfolding answer left
-  both_stop m q old' h t d =
-      ⊎_elim (λ k. absurd (d (t.answers ∙ ap answer k.0))) (λ k. rw k.2 (record { answers = t.answers ∙ ap answer k.1; leaves = refl })) h
+  both_stop m q old' h t =
+      ⊎_elim (λ k. absurd (unlike (sym (t.answers ∙ ap answer k.0)))) (λ k. rw k.2 (record { answers = t.answers ∙ ap answer k.1; leaves = refl })) h
 
 -- what the test of a state tells
 pub record Possible (s : RollingState) : Type 0 where
@@ -100,15 +93,15 @@ module _ (bytes : List ℕ) (n : ℕ) (z : ℤ) (out : List ℤ) (lengths : (len
   behind_lengths : {a : Answer} {m : List ℕ × List ℤ} → Meets (tested old n z (accepted written)) a (bytes, out) m → Meets (rolling_outcome bytes n z out) a (bytes, out) m
   behind_lengths met = pass _ (eq-eqb _ _ lengths.0) (pass _ (eq-eqb _ _ lengths.1) met)
 
-  module _ {a : Answer} {new : RollingState} {m : ℤ} (met : Meets (step_outcome old n z) a (old, absent) (new, m)) where
-    abbrev given : RollingState × ℤ
-    given = let new = advanced old n z in (new, figure new.codes)
+  abbrev given : RollingState × ℤ
+  given = let new = advanced old n z in (new, figure new.codes)
 
-    pub call_stops : (a ≡ Done → ⊥) → Meets (rolling_outcome bytes n z out) a (bytes, out) (bytes, out)
-    call_stops d = behind_lengths (both_stop given (accepted written) (bytes, out) (tested_alike old n z given (accepted written)) met d)
+  pub call_stops : {e : Refusal} {new : RollingState × ℤ} → Meets (step_outcome old n z) (Refused e) (old, absent) new → Meets (rolling_outcome bytes n z out) (Refused e) (bytes, out) (bytes, out)
+  call_stops met = behind_lengths (both_stop given (accepted written) (bytes, out) (tested_alike old n z given (accepted written)) met)
 
-    pub call_ends : a ≡ Done → {bytes' : List ℕ} → bytes' ≡ state_bytes new → Meets (rolling_outcome bytes n z out) Done (bytes, out) (bytes', set out 0 m)
-    call_ends d stored =
-        let end = both_end given (accepted written) (tested_alike old n z given (accepted written)) (rw d at met) in
-        behind_lengths (meets_as end.1
-        (accept_pair (stored ∙ ap (λ p. state_bytes p.0) end.0) (only_one out m lengths.1 ∙ ap (λ p. p.1 ∷ []) end.0)))
+  pub call_ends : {new : RollingState} {m : ℤ} → Meets (step_outcome old n z) Done (old, absent) (new, m) → {bytes' : List ℕ} → bytes' ≡ state_bytes new
+      → Meets (rolling_outcome bytes n z out) Done (bytes, out) (bytes', set out 0 m)
+  call_ends {m = m} met stored =
+      let end = both_end given (accepted written) (tested_alike old n z given (accepted written)) met in
+      behind_lengths (meets_as end.1
+      (accept_pair (stored ∙ ap (λ p. state_bytes p.0) end.0) (only_one out m lengths.1 ∙ ap (λ p. p.1 ∷ []) end.0)))

@@ -6,6 +6,7 @@ use mathlib.Core.List.{List, [], ◌∷◌, map}
 use native.Mathlib.Omega.{arith}
 use borrow.Author.Tests.{leb-true, ltb-true, ne_eqb}
 use lib.Dec.{ltb, eqb}
+use mir.Val.{bool_byte}
 use lib.IntN.{ℤ, pos, negsuc, nat_abs, neg_ℤ-+ℤ, neg_ℤ, ◌+ℤ◌, ◌-ℤ◌, +ℤ_assoc, +ℤ_comm}
 use lib.ListN.{length, get_or, drop, drop_of_length-le, length-map}
 use Rattle.basics.specs.Lists.{all}
@@ -18,7 +19,7 @@ use Rattle.rolling.specs.State.{absent_code, figure, present_codes, total}
 
 -- 1 for a present mean, and 0 for an absent one
 abbrev one : ℕ → ℕ
-one c = cond (eqb c 32767) 0 1
+one c = bool_byte (not (eqb c 32767))
 
 -- ---- one code at the front
 
@@ -26,14 +27,14 @@ module _ (c : ℕ) (cs : List ℕ) where
   front_count : length (present_codes (c ∷ cs)) ≡ one c + length (present_codes cs)
   front_count = go (eqb c 32767)
     where
-      go : (b : Bool) → length (cond (not b) (c ∷ present_codes cs) (present_codes cs)) ≡ cond b 0 1 + length (present_codes cs)
+      go : (b : Bool) → length (cond (not b) (c ∷ present_codes cs) (present_codes cs)) ≡ bool_byte (not b) + length (present_codes cs)
       go true = omega arith
       go false = omega arith
 
   front_total : total (present_codes (c ∷ cs)) ≡ one c * c + total (present_codes cs)
   front_total = go (eqb c 32767)
     where
-      go : (b : Bool) → total (cond (not b) (c ∷ present_codes cs) (present_codes cs)) ≡ cond b 0 1 * c + total (present_codes cs)
+      go : (b : Bool) → total (cond (not b) (c ∷ present_codes cs) (present_codes cs)) ≡ bool_byte (not b) * c + total (present_codes cs)
       go true = omega arith
       go false = omega arith
 
@@ -44,7 +45,7 @@ present_small c k e = leb-true c 22000 (rw (e, or-false) at k)
 front_small : (c : ℕ) → is_code c ≡ true → one c * c ≤ 22000 * one c
 front_small c k = go (eqb c 32767) refl
   where
-    go : (b : Bool) → eqb c 32767 ≡ b → cond b 0 1 * c ≤ 22000 * cond b 0 1
+    go : (b : Bool) → eqb c 32767 ≡ b → bool_byte (not b) * c ≤ 22000 * bool_byte (not b)
     go true e = omega arith
     go false e = omega (arith, present_small c k e)
 

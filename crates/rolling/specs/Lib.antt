@@ -3,3 +3,4 @@ pub mod Runs
 pub mod State
 pub mod Bytes
 pub mod Cases
+pub mod Steps

@@ -5,28 +5,14 @@ ghost use Rattle.rolling.specs.Bytes.{numbers, bytes_of, in_bytes, state_from, s
 
 use crate::state::RollingState;
 
-fn wide(x: u8) -> u64
-    ensures { result ≡ x }
-{
-    x as u64
-}
-
-fn code_wide(code: u16) -> u64
-    ensures { result ≡ code }
-{
-    code as u64
-}
-
 // The number in `width` bytes from an index on.
 fn number_at(bytes: &[u8], at: usize, width: usize) -> u64
     requires { (at + width ≤ length bytes.now) × (width ≤ 8) }
     ensures { result ≡ little_endian (take width (drop at bytes.now)) }
 {
     let mut x = 0u64;
-    let mut j = width;
-    while j > 0 {
-        j -= 1;
-        x = 256 * x + wide(bytes[at + j]);
+    for j in (0..width).rev() {
+        x = 256 * x + u64::from(bytes[at + j]);
     }
     x
 }
@@ -35,13 +21,12 @@ fn load_codes(bytes: &[u8], codes: &mut [u16; 24])
     requires { (length bytes.now ≡ 64) × (length codes.old ≡ 24) }
     ensures { codes.new ≡ numbers 2 24 bytes.now }
 {
-    let mut i = 0;
-    while i < 24 {
+    for i in 0..24 {
         codes[i] = number_at(bytes, 2 * i, 2) as u16;
-        i += 1;
     }
 }
 
+#[tactic(auto, unfolding(crate::specs::Bytes::state_from))]
 pub fn load(bytes: &[u8]) -> RollingState
     requires { length bytes.now ≡ 64 }
     ensures { result ≡ state_from bytes.now }
@@ -58,11 +43,9 @@ fn store_number(x: u64, out: &mut [u8])
     ensures { out.new ≡ bytes_of (length out.old) x }
 {
     let mut rest = x;
-    let mut j = 0;
-    while j < out.len() {
-        out[j] = (rest % 256) as u8;
-        rest = rest / 256;
-        j += 1;
+    for byte in out {
+        *byte = (rest % 256) as u8;
+        rest /= 256;
     }
 }
 
@@ -70,12 +53,10 @@ fn store_codes(codes: &[u16; 24], out: &mut [u8])
     requires { (length codes.now ≡ 24) × (length out.old ≡ 48) }
     ensures { out.new ≡ in_bytes 2 codes.now }
 {
-    let mut i = 0;
-    while i < 24 {
+    for i in 0..24 {
         let from = 2 * i;
         let to = from + 2;
-        store_number(code_wide(codes[i]), &mut out[from..to]);
-        i += 1;
+        store_number(u64::from(codes[i]), &mut out[from..to]);
     }
 }
 

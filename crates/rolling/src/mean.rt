@@ -1,10 +1,10 @@
 // The rolling mean of 24 codes.
-ghost use Rattle.std.specs.Prelude.{◌≡◌, true, cond, ◌*◌, ◌≤◌, pos, ◌-ℤ◌, eqb, length};
+ghost use Rattle.std.specs.Prelude.{◌≡◌, true, ◌*◌, ◌≤◌, pos, ◌-ℤ◌, length};
 ghost use Rattle.basics.specs.Lists.{all};
 ghost use Rattle.hours.specs.Packing.{is_code};
 ghost use Rattle.rolling.specs.State.{figure, present_codes, total};
 
-use crate::state::{ABSENT_CODE, wide};
+use crate::state::ABSENT_CODE;
 use hours::means::ABSENT;
 use hours::rounding::nearest;
 
@@ -18,13 +18,6 @@ struct Total {
     sum: u32,
 }
 
-// 1 for a present mean, and 0 for an absent one.
-fn presence(code: u16) -> u32
-    ensures { result ≡ cond (eqb code 32767) 0 1 }
-{
-    if code == ABSENT_CODE { 0 } else { 1 }
-}
-
 // Over the codes, with no branch that depends on one.
 fn add_up(codes: &[u16]) -> Total
     requires { (length codes.now ≤ 24) × (all is_code codes.now ≡ true) }
@@ -32,12 +25,10 @@ fn add_up(codes: &[u16]) -> Total
 {
     let mut count: u32 = 0;
     let mut sum: u32 = 0;
-    let mut i = 0;
-    while i < codes.len() {
-        let one = presence(codes[i]);
-        count += one;
-        sum += one * wide(codes[i]);
-        i += 1;
+    for code in codes {
+        let present = u32::from(*code != ABSENT_CODE);
+        count += present;
+        sum += present * u32::from(*code);
     }
     Total { count, sum }
 }

@@ -23,6 +23,7 @@ pub struct RollingState {
 }
 
 // The state before the first hour.
+#[tactic(auto, unfolding(crate::specs::State::held))]
 pub fn fresh() -> RollingState
     ensures { result ≡ state_of [] }
 {
@@ -34,22 +35,13 @@ pub fn fresh() -> RollingState
     }
 }
 
-// A cast in a function of its own asks nothing of its caller.
-pub fn wide(code: u16) -> u32
-    ensures { result ≡ code }
-{
-    code as u32
-}
-
 // Every code stands for a mean. No branch depends on one.
 fn all_codes(codes: &[u16]) -> bool
     ensures { result ≡ all is_code codes.now }
 {
     let mut good = true;
-    let mut i = 0;
-    while i < codes.len() {
-        good = good & is_code(wide(codes[i]));
-        i += 1;
+    for code in codes {
+        good = good & is_code(u32::from(*code));
     }
     good
 }
@@ -58,31 +50,18 @@ fn all_codes(codes: &[u16]) -> bool
 fn absent_from(codes: &[u16], from: usize) -> bool
     ensures { result ≡ all absent_code (drop from codes.now) }
 {
-    let mut i = from;
-    while i < codes.len() {
-        if codes[i] != ABSENT_CODE {
-            return false;
-        }
-        i += 1;
-    }
-    true
+    codes.iter().skip(from).all(|code| *code == ABSENT_CODE)
 }
 
 // Some run of hours gives this state.
+#[tactic(auto, unfolding(crate::specs::State::possible))]
 pub fn is_possible(state: RollingState) -> bool
     ensures { result ≡ possible state }
 {
-    if state.next > 4_294_967_296 {
-        return false;
-    }
-    if state.spare != 0 {
-        return false;
-    }
-    let codes = state.codes;
-    if !all_codes(&codes) {
-        return false;
-    }
-    absent_from(&codes, state.next as usize)
+    state.next <= 4_294_967_296
+        && state.spare == 0
+        && all_codes(&state.codes)
+        && absent_from(&state.codes, state.next as usize)
 }
 
 // The hour is the one that comes next.
@@ -90,34 +69,31 @@ pub fn is_next(next: u64, hour: u32) -> bool
     ensures { result ≡ continues next hour }
 {
     if next == 0 {
-        return hour <= LATEST_FIRST;
+        hour <= LATEST_FIRST
+    } else {
+        u64::from(hour) == next
     }
-    hour as u64 == next
 }
 
 // The newest code comes in at the front, and the oldest falls out.
-fn pushed(mut codes: [u16; 24], code: u16) -> [u16; 24]
-    ensures { result ≡ code ∷ take 23 codes }
+fn pushed(codes: &[u16; 24], code: u16) -> [u16; 24]
+    ensures { result ≡ code ∷ take 23 codes.now }
 {
-    let mut i = 23;
-    while i > 0 {
-        codes[i] = codes[i - 1];
-        i -= 1;
-    }
-    codes[0] = code;
-    codes
+    let mut new = [code; 24];
+    new[1..].copy_from_slice(&codes[..23]);
+    new
 }
 
 // The state one hour further.
+#[tactic(auto, unfolding(crate::specs::State::advanced))]
 pub fn advance(state: RollingState, hour: u32, mean: i16) -> RollingState
     requires { valid mean ≡ true }
     ensures { result ≡ advanced state hour mean }
 {
-    let old = state.codes;
-    let codes = pushed(old, encode(mean) as u16);
+    let codes = pushed(&state.codes, encode(mean) as u16);
     RollingState {
         codes,
-        next: hour as u64 + 1,
+        next: u64::from(hour) + 1,
         spare: 0,
     }
 }

@@ -1,51 +1,36 @@
 // One hour: tests, the state one hour further, and the rolling mean.
-ghost use Rattle.std.specs.Prelude.{◌≡◌};
-ghost use Rattle.basics.specs.Outcome.{Meets};
+ghost use Rattle.basics.specs.Outcome.{Done, Meets, answer_by};
 ghost use Rattle.hours.specs.Means.{absent};
 ghost use Rattle.rolling.specs.State.{step_outcome};
+ghost use Rattle.rolling.specs.Steps.{left_by};
 
 use crate::mean::rolling_mean;
 use crate::state::{RollingState, advance, is_next, is_possible};
-use basics::{Answer, Refusal};
-use hours::means::ABSENT;
+use basics::Refusal;
 use hours::packing::is_valid;
 
-// A refused step has the state that went in, and no mean.
+// The state one hour further, and the rolling mean.
 #[derive(Clone, Copy)]
 pub struct Stepped {
-    pub answer: Answer,
     pub state: RollingState,
     pub mean: i16,
 }
 
-fn refused(refusal: Refusal, state: RollingState) -> Stepped
-    ensures { (result.answer ≡ Answer.Refused refusal) × (result.state ≡ state) × (result.mean ≡ absent) }
-{
-    let answer = Answer::Refused(refusal);
-    Stepped {
-        answer,
-        state,
-        mean: ABSENT,
-    }
-}
-
-pub fn step(state: RollingState, hour: u32, mean: i16) -> Stepped
-    ensures { Meets (step_outcome state hour mean) result.answer (state, absent) (result.state, result.mean) }
+pub fn step(state: RollingState, hour: u32, mean: i16) -> Result<Stepped, Refusal>
+    ensures { Meets (step_outcome state hour mean) (answer_by (λ _. Done) result) (state, absent) (left_by state result) }
 {
     if !is_valid(mean) {
-        return refused(Refusal::Reading, state);
+        return Err(Refusal::Reading);
     }
     if !is_possible(state) {
-        return refused(Refusal::NoRun, state);
+        return Err(Refusal::NoRun);
     }
     if !is_next(state.next, hour) {
-        return refused(Refusal::NoRun, state);
+        return Err(Refusal::NoRun);
     }
     let new = advance(state, hour, mean);
-    let codes = new.codes;
-    Stepped {
-        answer: Answer::Done,
+    Ok(Stepped {
         state: new,
-        mean: rolling_mean(&codes),
-    }
+        mean: rolling_mean(&new.codes),
+    })
 }

@@ -1,9 +1,9 @@
--- What is kept after a block of tries: what has been found where no multiple is better or none is tried, or else that multiple.
+-- What is kept after a block of tries where no multiple is better or none is tried: what has been found.
 use Prim.Native.Nat.{ℕ, min}
 use mathlib.Core.Path.{◌≡◌, refl}
 use mathlib.Core.List.{List}
 use native.Mathlib.Omega.{arith}
-use borrow.Author.Tests.{eq-eqb, ne_eqb}
+use borrow.Author.Tests.{eq-eqb}
 use Rattle.field.specs.Field.{Arithmetic}
 use Rattle.patterns.specs.Cheapest.{cheapest}
 use Rattle.tries.specs.Multiples.{Priced, best_multiple}
@@ -13,12 +13,6 @@ use Rattle.search.specs.Found.{improved}
 module _ (f : Found) (b : Priced) (late d early : ℕ) where
   pub improved_none : b.1 ≡ 0 → f ≡ improved f b late d early
   improved_none h = rw (eq-eqb b.1 0 h) refl
-
-  abbrev better : Found
-  better = record { cost = b.0; late = late; d = d; early = early; e = b.1 }
-
-  pub improved_some : (b.1 ≡ 0 → ⊥) → better ≡ improved f b late d early
-  improved_some h = rw (ne_eqb b.1 0 h) refl
 
 -- none is tried
 pub none_tried : (F : Arithmetic) (trusts row x : List ℕ) (cost left most : ℕ) → left ≡ 0 → (best_multiple F trusts row x cost (min left most)).1 ≡ 0

@@ -1,14 +1,11 @@
--- Loops of the search: that over picked places goes on with the places before, and that over all places adds up what is left of their trust.
-use Prim.Native.Nat.{ℕ, zero, suc, ◌+◌, ◌-◌, ◌<◌, ◌≤◌}
-use mathlib.Core.Path.{◌≡◌, refl, sym, ◌∙◌, ap}
+-- The loop over picked places goes on with the places before.
+use Prim.Native.Nat.{ℕ, zero, suc, ◌-◌, ◌<◌, ◌≤◌}
+use mathlib.Core.Path.{◌≡◌, refl, ◌∙◌, ap}
 use mathlib.Core.List.{List}
 use native.Mathlib.Omega.{arith}
-use borrow.Author.Tests.{eq-eqb, ne_eqb}
-use lib.ListN.{length, get_or, set, drop, length-map, drop_of_length-le}
-use Rattle.basics.proofs.Loops.{next}
+use lib.ListN.{length, set, length-map}
 use Rattle.codewords.specs.Code.{Code, q}
 use Rattle.patterns.specs.Patterns.{down, amounts, none, singles}
-use Rattle.patterns.specs.Cheapest.{weigh}
 use Rattle.patterns.proofs.Each.{length_amounts}
 use Rattle.search.specs.declared.block.Found.{Found}
 use Rattle.search.specs.Search.{values, IsTry, Runs}
@@ -43,16 +40,3 @@ pub singles_start : (code : Code) (received trusts : List ℕ) {f : Found} (m : 
     → Going code received trusts (values (q code) (none code.k)) f m (singles (q code) code.k) f m (down code.k)
 unfolding singles
 singles_start code received trusts m t = going_start (down code.k) t
-
--- ---- the total trust of the places where a difference is not 0
-
-module _ (trusts difference : List ℕ) (i sum : ℕ) {whole : ℕ} (rest : sum + weigh (drop i trusts) (drop i difference) ≡ whole) where
-  pub weigh_more : i < length trusts → i < length difference → (get_or difference i 0 ≡ 0 → ⊥)
-      → (sum + get_or trusts i 0) + weigh (drop (i + 1) trusts) (drop (i + 1) difference) ≡ whole
-  weigh_more h k e = omega (arith, rw (next trusts 0 i h, next difference 0 i k, ne_eqb 0 (get_or difference i 0) (λ z. e (sym z))) at rest)
-
-  pub weigh_same : i < length trusts → i < length difference → get_or difference i 0 ≡ 0 → sum + weigh (drop (i + 1) trusts) (drop (i + 1) difference) ≡ whole
-  weigh_same h k e = omega (arith, rw (next trusts 0 i h, next difference 0 i k, eq-eqb 0 (get_or difference i 0) (sym e)) at rest)
-
-  pub weigh_over : length trusts ≤ i → sum ≡ whole
-  weigh_over h = omega (arith, rw (drop_of_length-le trusts h) at rest)

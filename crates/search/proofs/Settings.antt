@@ -13,7 +13,6 @@ use Rattle.codewords.proofs.Accepted.{Accepted, accepted_done, laws}
 use Rattle.codewords.proofs.Places.{all_at, true_message, symbols_true}
 use Rattle.arrangement.specs.Arranged as arranged
 use Rattle.solving.proofs.Arranged.{places_in_lem}
-use Rattle.matrix.specs.Given.{part}
 use Rattle.patterns.specs.Patterns.{amounts, none, pair}
 use Rattle.patterns.specs.Best.{entries, changed, word_of}
 use Rattle.patterns.proofs.Each.{all_each, all_mapped, amounts_in}
@@ -22,7 +21,7 @@ use Rattle.patterns.proofs.Changes.{changed_length, changed_below}
 use Rattle.patterns.proofs.Words.{codeword_symbols, codeword_length, word_codeword}
 use Rattle.patterns.proofs.Linear.{row_codeword}
 use Rattle.patterns.proofs.Computed.{computed}
-use Rattle.picked_rows.specs.Stored.{Given}
+use Rattle.picked_rows.specs.Stored.{Given, Prepared}
 use Rattle.picked_rows.proofs.Rows.{lent_array}
 use Rattle.picked_rows.proofs.Difference.{given_works}
 use Rattle.tries.specs.Multiples.{Rows}
@@ -30,9 +29,10 @@ use Rattle.search.specs.declared.block.Found.{Found}
 use Rattle.search.specs.Search.{values, price, IsTry, Runs}
 use Rattle.search.proofs.Running.{runs_past}
 
--- the seventh array of n bytes
-pub base_part : (n : ℕ) (work : List ℕ) → take (6 * n + n - 6 * n) (drop (6 * n) work) ≡ part n 6 work
-base_part n work = lent_array n 6 (6 * n) (6 * n + n) work refl refl
+-- the seventh array, as it is lent: the difference of the received word and the codeword that agrees with it at the picked places
+pub base_part : {code : Code} {received trusts J work : List ℕ} → Prepared code received trusts J work
+    → take (6 * n code + n code - 6 * n code) (drop (6 * n code) work) ≡ changed received (word_of code received trusts (none code.k))
+base_part {code} {work = work} p = lent_array (n code) 6 (6 * n code) (6 * n code + n code) work refl refl ∙ p.base
 
 -- ---- the picked places
 

@@ -1,11 +1,11 @@
 // All changes of one place, with or without a change of a later one: the multiples of its row.
 ghost use Rattle.std.specs.Prelude.{◌≡◌, ◌-◌, ◌<◌, min};
 ghost use Rattle.field.specs.Galois.{galois, size};
-ghost use Rattle.field.specs.Tables.{Tables};
 ghost use Rattle.elliptic.specs.Pair.{add_scaled};
 ghost use Rattle.tries.specs.Multiples.{Rows, best_multiple};
 ghost use Rattle.search.specs.Found.{improved, priced_of};
 
+use field::Field;
 use tries::choose::Multiple;
 use tries::multiples::try_multiples;
 
@@ -28,18 +28,16 @@ fn improve(found: Found, best: Multiple, late: usize, d: u8, early: usize) -> Fo
     }
     Found {
         cost: best.cost,
-        late: late,
-        d: d,
-        early: early,
+        late,
+        d,
+        early,
         e: best.e,
     }
 }
 
 // The first `left` changes of the place `early`, whose row is `row`, where that of `late` is changed by d. None is tried where none is left.
 pub fn try_block(
-    m: u8,
-    powers: &[u8; 1021],
-    logs: &[u16; 512],
+    field: &Field,
     trusts: &[u8],
     difference: &[u8],
     d: u8,
@@ -50,15 +48,14 @@ pub fn try_block(
     found: Found,
     left: usize,
 ) -> Found
-    requires tables { Tables m powers.now logs.now }
-    requires rows { Rows m trusts.now difference.now late_row.now row.now × (d < size m) }
-    ensures { result ≡ improved found (best_multiple (galois m) trusts.now row.now (add_scaled (galois m) d late_row.now difference.now) found.cost (min left (size m - 1))) late d early }
+    requires rows { Rows field.now.number trusts.now difference.now late_row.now row.now × (d < size field.now.number) }
+    ensures { result ≡ improved found (best_multiple (galois field.now.number) trusts.now row.now (add_scaled (galois field.now.number) d late_row.now difference.now) found.cost (min left (size field.now.number - 1))) late d early }
 {
     if left == 0 {
         return found;
     }
     let best = try_multiples(
-        m, powers, logs, trusts, difference, d, late_row, row, left, found.cost,
+        field, trusts, difference, d, late_row, row, left, found.cost,
     );
     improve(found, best, late, d, early)
 }

@@ -1,7 +1,7 @@
 // Two picked places changed: by the later, then the earlier, each from the last to the first.
 ghost use Rattle.std.specs.Prelude.{◌≡◌, ◌<◌, length};
-ghost use Rattle.field.specs.Tables.{Tables};
-ghost use Rattle.codewords.specs.Code.{code_of, q};
+ghost use Rattle.codewords.specs.Code.{q};
+ghost use Rattle.code.specs.Shown.{shown};
 ghost use Rattle.codewords.specs.Codewords.{index, row};
 ghost use Rattle.patterns.specs.Patterns.{each, down, pair, pairs};
 ghost use Rattle.picked_rows.specs.Stored.{Prepared};
@@ -10,18 +10,13 @@ ghost use Rattle.search.specs.Search.{IsTry, Runs};
 use crate::amounts::try_amounts;
 use crate::block::Found;
 use basics::MessageIndex;
-use codewords::Parameters;
-use field::size;
-use gap::trusts::{less, trust_of};
+use code::accepted::Code;
+use gap::trusts::trust_of;
 use picked_rows::row::picked_row;
 
 // The changes of a pair. They cost the trust of both places or more.
 fn try_pair(
-    p: Parameters,
-    powers: &[u8; 1021],
-    logs: &[u16; 512],
-    xs: &[u8],
-    ys: &[u8],
+    code: &Code,
     received: &[u8],
     trusts: &[u8],
     places: &[u16],
@@ -33,23 +28,20 @@ fn try_pair(
     found: Found,
     left: usize,
 ) -> Found
-    requires tables { Tables p.field powers.now logs.now }
-    requires prepared { Prepared (code_of p xs.now ys.now) received.now trusts.now places.now work.now × IsTry (code_of p xs.now ys.now) received.now trusts.now found
-        × (late_row.now ≡ row (code_of p xs.now ys.now) places.now late) × (length early_row.old ≡ length xs.now) × (late.0 < p.k) × (early.0 < late.0) }
-    ensures { Runs (code_of p xs.now ys.now) received.now trusts.now found left
-        (pair (q (code_of p xs.now ys.now)) p.k late.0 early.0) result }
+    requires prepared { Prepared (shown code.now) received.now trusts.now places.now work.now × IsTry (shown code.now) received.now trusts.now found
+        × (late_row.now ≡ row (shown code.now) places.now late) × (length early_row.old ≡ length code.now.xs.now) × (late.0 < code.now.k) × (early.0 < late.0) }
+    ensures { Runs (shown code.now) received.now trusts.now found left
+        (pair (q (shown code.now)) code.now.k late.0 early.0) result }
 {
     if found.cost <= trust_of(trusts, places, late) + trust_of(trusts, places, early) {
         return found;
     }
-    picked_row(p, powers, logs, xs, ys, places, work, early, early_row);
-    let n = xs.len();
+    picked_row(code, places, work, early, early_row);
+    let n = code.xs.len();
     let start = 6 * n;
     let end = start + n;
     try_amounts(
-        p.field,
-        powers,
-        logs,
+        code.field,
         trusts,
         &work[start..end],
         late_row,
@@ -63,11 +55,7 @@ fn try_pair(
 
 // The pairs of a later place with all before it.
 fn try_earlier(
-    p: Parameters,
-    powers: &[u8; 1021],
-    logs: &[u16; 512],
-    xs: &[u8],
-    ys: &[u8],
+    code: &Code,
     received: &[u8],
     trusts: &[u8],
     places: &[u16],
@@ -78,25 +66,18 @@ fn try_earlier(
     found: Found,
     left: usize,
 ) -> Found
-    requires tables { Tables p.field powers.now logs.now }
-    requires prepared { Prepared (code_of p xs.now ys.now) received.now trusts.now places.now work.now × IsTry (code_of p xs.now ys.now) received.now trusts.now found
-        × (late_row.now ≡ row (code_of p xs.now ys.now) places.now late) × (length early_row.old ≡ length xs.now) × (late.0 < p.k) }
-    ensures { Runs (code_of p xs.now ys.now) received.now trusts.now found left
-        (each (down late.0) (pair (q (code_of p xs.now ys.now)) p.k late.0)) result }
+    requires prepared { Prepared (shown code.now) received.now trusts.now places.now work.now × IsTry (shown code.now) received.now trusts.now found
+        × (late_row.now ≡ row (shown code.now) places.now late) × (length early_row.old ≡ length code.now.xs.now) × (late.0 < code.now.k) }
+    ensures { Runs (shown code.now) received.now trusts.now found left
+        (each (down late.0) (pair (q (shown code.now)) code.now.k late.0)) result }
 {
-    let some = size(p.field) - 1;
+    let some = code.field.size() - 1;
     let mut best = found;
     let mut rest = left;
-    let mut i = late.0;
-    while 0 < i {
-        i -= 1;
+    for i in (0..late.0).rev() {
         if 0 < rest {
             best = try_pair(
-                p,
-                powers,
-                logs,
-                xs,
-                ys,
+                code,
                 received,
                 trusts,
                 places,
@@ -109,18 +90,14 @@ fn try_earlier(
                 rest,
             );
         }
-        rest = less(rest, some * some);
+        rest = rest.saturating_sub(some * some);
     }
     best
 }
 
 // The same, with the later place's row written first.
 fn try_late(
-    p: Parameters,
-    powers: &[u8; 1021],
-    logs: &[u16; 512],
-    xs: &[u8],
-    ys: &[u8],
+    code: &Code,
     received: &[u8],
     trusts: &[u8],
     places: &[u16],
@@ -131,26 +108,20 @@ fn try_late(
     found: Found,
     left: usize,
 ) -> Found
-    requires tables { Tables p.field powers.now logs.now }
-    requires prepared { Prepared (code_of p xs.now ys.now) received.now trusts.now places.now work.now × IsTry (code_of p xs.now ys.now) received.now trusts.now found
-        × (length late_row.old ≡ length xs.now) × (length early_row.old ≡ length xs.now) × (late.0 < p.k) }
-    ensures { Runs (code_of p xs.now ys.now) received.now trusts.now found left
-        (each (down late.0) (pair (q (code_of p xs.now ys.now)) p.k late.0)) result }
+    requires prepared { Prepared (shown code.now) received.now trusts.now places.now work.now × IsTry (shown code.now) received.now trusts.now found
+        × (length late_row.old ≡ length code.now.xs.now) × (length early_row.old ≡ length code.now.xs.now) × (late.0 < code.now.k) }
+    ensures { Runs (shown code.now) received.now trusts.now found left
+        (each (down late.0) (pair (q (shown code.now)) code.now.k late.0)) result }
 {
-    picked_row(p, powers, logs, xs, ys, places, work, late, late_row);
+    picked_row(code, places, work, late, late_row);
     try_earlier(
-        p, powers, logs, xs, ys, received, trusts, places, work, late_row, early_row, late, found,
-        left,
+        code, received, trusts, places, work, late_row, early_row, late, found, left,
     )
 }
 
 // All pairs.
 pub fn try_pairs(
-    p: Parameters,
-    powers: &[u8; 1021],
-    logs: &[u16; 512],
-    xs: &[u8],
-    ys: &[u8],
+    code: &Code,
     received: &[u8],
     trusts: &[u8],
     places: &[u16],
@@ -160,25 +131,18 @@ pub fn try_pairs(
     found: Found,
     left: usize,
 ) -> Found
-    requires tables { Tables p.field powers.now logs.now }
-    requires prepared { Prepared (code_of p xs.now ys.now) received.now trusts.now places.now work.now × IsTry (code_of p xs.now ys.now) received.now trusts.now found
-        × (length late_row.old ≡ length xs.now) × (length early_row.old ≡ length xs.now) }
-    ensures { Runs (code_of p xs.now ys.now) received.now trusts.now found left
-        (pairs (q (code_of p xs.now ys.now)) p.k) result }
+    requires prepared { Prepared (shown code.now) received.now trusts.now places.now work.now × IsTry (shown code.now) received.now trusts.now found
+        × (length late_row.old ≡ length code.now.xs.now) × (length early_row.old ≡ length code.now.xs.now) }
+    ensures { Runs (shown code.now) received.now trusts.now found left
+        (pairs (q (shown code.now)) code.now.k) result }
 {
-    let some = size(p.field) - 1;
+    let some = code.field.size() - 1;
     let mut best = found;
     let mut rest = left;
-    let mut i = p.k;
-    while 0 < i {
-        i -= 1;
+    for i in (0..code.k).rev() {
         if 0 < rest {
             best = try_late(
-                p,
-                powers,
-                logs,
-                xs,
-                ys,
+                code,
                 received,
                 trusts,
                 places,
@@ -190,7 +154,7 @@ pub fn try_pairs(
                 rest,
             );
         }
-        rest = less(rest, i * (some * some));
+        rest = rest.saturating_sub(i * (some * some));
     }
     best
 }

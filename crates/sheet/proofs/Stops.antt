@@ -1,55 +1,57 @@
 -- Test after test of a job, and what an operation that is called says.
+use Prim.{tt}
 use Prim.Native.Nat.{ℕ}
 use mathlib.Core.Bool.{Bool, true, false}
-use mathlib.Core.Path.{◌≡◌, refl, sym, ◌∙◌}
+use mathlib.Core.Path.{◌≡◌, refl}
 use mathlib.Core.List.{List}
-use native.Mathlib.Omega.{arith}
+use Rattle.std.specs.Prelude.{Result, Ok, Err}
+use Rattle.std.specs.Result.{IsErrAnd}
 use Rattle.basics.specs.declared.Refusal.{Refusal}
-use Rattle.basics.specs.declared.Answer.{Answer}
-use Rattle.basics.specs.declared.Answer.TheVariants.{Done, Refused}
-use Rattle.basics.specs.Outcome.{Outcome, refused, accepted, check, answer, left, Meets}
-use Rattle.sheet.specs.Running.{Result, Runs}
+use Rattle.basics.specs.Outcome.{Done, Refused, Outcome, refused, accepted, counted, check, answer, left, Meets}
+use Rattle.sheet.specs.Running.{Solution, Runs}
 
 -- ---- a job's own tests
 
 module _ {k : ℕ} {f w : List ℕ} where
-  pub passes : (e : Refusal) {b : Bool} {o : Outcome Result} {r : Answer} → b ≡ true → Runs o k f w r → Runs (check b e o) k f w r
+  pub passes : (e : Refusal) {b : Bool} {o : Outcome Solution} {r : Result ℕ Refusal} → b ≡ true → Runs o k f w r → Runs (check b e o) k f w r
   unfolding check
   passes e h m = rw h m
 
-  refusal : {o : Outcome Result} (e : Refusal) → refused e ≡ o → Runs o k f w (Refused e)
-  refusal e h = record { outcome = h; within = λ n q. let z : ◌≡◌ {A = ℕ} 0 1 = cc in (absurd (omega arith), absurd (omega arith)) }
-
-  pub stops : {b : Bool} {e : Refusal} (o : Outcome Result) → b ≡ false → Runs (check b e o) k f w (Refused e)
+  pub stops : {b : Bool} {e : Refusal} (o : Outcome Solution) → b ≡ false → Runs (check b e o) k f w (Err e)
   unfolding check
-  stops {e = e} o h = refusal e (rw h)
+  stops o h = record { outcome = rw h refl; within = tt }
 
-  -- an answer that every outcome with the same tests gives
-  pub stops_as : {o : Outcome Result} {r : Answer} (e : Refusal) → r ≡ Refused e → refused e ≡ o → Runs o k f w r
-  stops_as e q h = rw q (refusal e h)
-
-  pub runs_as : {o p : Outcome Result} {r : Answer} → o ≡ p → Runs p k f w r → Runs o k f w r
+  pub runs_as : {o p : Outcome Solution} {r : Result ℕ Refusal} → o ≡ p → Runs p k f w r → Runs o k f w r
   runs_as e m = rw e m
+
+  -- a `?` passed a refusal on
+  pub exit_ran : {o : Outcome Solution} {e : Refusal} (r : Result ℕ Refusal) → IsErrAnd r (λ d. d ≡ e) → refused e ≡ o → Runs o k f w r
+  exit_ran (Ok n) h q = absurd h
+  exit_ran (Err d) h q = record { outcome = rw h q; within = tt }
+
+-- ---- an operation that refused
+
+pub refused_as : {M : Type 0} (o : Outcome M) {e : Refusal} → Refused e ≡ answer o → refused e ≡ o
+unfolding answer
+refused_as (refused d) h = cc
+refused_as (accepted m) h = cc
+refused_as (counted n m) h = cc
+
+-- an outcome with the same test is the same refusal, if what is behind it is
+module _ {M N : Type 0} where
+  pub refused_check : (b : Bool) (d : Refusal) {e : Refusal} {u : Outcome M} {o : Outcome N} → (refused e ≡ u → refused e ≡ o) → refused e ≡ check b d u → refused e ≡ check b d o
+  unfolding check
+  refused_check true d next h = next h
+  refused_check false d next h = cc
 
 -- ---- an operation whose last test is b
 
-module _ {M : Type 0} (b : Bool) (e : Refusal) (m : M) {r : Answer} {old new : M} (met : Meets (check b e (accepted m)) r old new) where
-  pub met_done : r ≡ Done → (b ≡ true) × (new ≡ m)
-  unfolding check answer left
-  met_done q = by b refl
-    where
-      by : (t : Bool) → b ≡ t → (b ≡ true) × (new ≡ m)
-      by true h = (h, rw h at met.leaves)
-      by false h = (let z = sym q ∙ (rw h at met.answers) in cc, let z = sym q ∙ (rw h at met.answers) in cc)
+module _ {M : Type 0} (b : Bool) (d : Refusal) (m : M) {old new : M} where
+  pub last_refused : {N : Type 0} {e : Refusal} (x : N) → Meets (check b d (accepted m)) (Refused e) old new → refused e ≡ check b d (accepted x)
+  last_refused x met = refused_check b d (λ h. cc) (refused_as _ met.answers)
 
-  pub met_passed : b ≡ true → (r ≡ Done) × (new ≡ m)
+module _ {M : Type 0} (d : Refusal) (m : M) {old new : M} where
+  pub last_done : (b : Bool) → Meets (check b d (accepted m)) Done old new → (b ≡ true) × (new ≡ m)
   unfolding check answer left
-  met_passed h = (rw h at met.answers, rw h at met.leaves)
-
-  pub met_stopped : (r ≡ Done → ⊥) → (b ≡ false) × (r ≡ Refused e)
-  unfolding check answer left
-  met_stopped d = by b refl
-    where
-      by : (t : Bool) → b ≡ t → (b ≡ false) × (r ≡ Refused e)
-      by true h = absurd (d (rw h at met.answers))
-      by false h = (h, rw h at met.answers)
+  last_done true met = (refl, met.leaves)
+  last_done false met = let h = met.answers in (cc, cc)

@@ -1,41 +1,32 @@
 -- From what was read, run and written to the whole.
 use Prim.Native.Nat.{ℕ, ◌≤◌}
-use mathlib.Core.Path.{◌≡◌, sym, ◌∙◌, ap}
+use mathlib.Core.Path.{◌≡◌, ap}
 use mathlib.Core.List.{List, []}
 use native.Mathlib.Omega.{arith}
 use borrow.Author.Tests.{le-leb, lt-leb}
 use lib.ListN.{length, take}
+use Rattle.std.specs.Prelude.{Ok, Err}
 use Rattle.basics.specs.declared.Refusal.{Refusal}
-use Rattle.basics.specs.declared.Refusal.TheVariants.{Length, SheetShape}
-use Rattle.basics.specs.declared.Answer.{Answer}
-use Rattle.basics.specs.declared.Answer.TheVariants.{Counted, Refused}
-use Rattle.basics.specs.Outcome.{Outcome, refused}
+use Rattle.basics.specs.declared.Refusal.TheVariants.{Length}
+use Rattle.basics.specs.Outcome.{Counted, Refused, Outcome, refused}
 use Rattle.basics.proofs.Outcomes.{pass, refuse, count}
 use Rattle.basics.proofs.Loops.{appended_none}
-use Rattle.text.specs.Reading.{bad, got, Sheet, sheet}
-use Rattle.sheet.specs.Job.{accepting, answer_text, answer_to, outcome_of, job_outcome, sheet_outcome, room, Answers}
-use Rattle.sheet.specs.Running.{Result, ran}
 use Rattle.text.specs.Stages.{Appends}
+use Rattle.sheet.specs.Job.{accepting, answer_text, answer_to, sheet_outcome, room, Answers}
+use Rattle.sheet.specs.Running.{Solution, Runs}
+use Rattle.sheet.proofs.Answers.{refusal_few, accepting_few, appends_as}
+use Rattle.sheet.proofs.Few.{part}
 
--- the text of an outcome, by what was answered
-pub accepted_text : {o : Outcome Result} (k : ℕ) (f w : List ℕ) (n : ℕ) {r : Answer} → r ≡ Counted n → ran k f w r ≡ o → accepting (take k f) (take n w) ≡ answer_text o
+-- what was written, by what was answered
+pub written_ok : {o : Outcome Solution} {k n : ℕ} {f w out out' : List ℕ} {m : ℕ} → Runs o k f w (Ok n) → length f ≡ 288 → length w ≡ 288 → Appends (accepting (take k f) (take n w)) out 0 out' m
+    → Appends (answer_text o) out 0 out' m × (m ≤ room)
 unfolding answer_text
-accepted_text k f w n q e = let z = rw q at e in rw (← z)
+written_ok {f = f} {w} r a b p =
+    (appends_as (ap answer_text r.outcome) p, omega (arith, p.count, accepting_few _ _ (part _ f r.within.0 a).short (part _ w r.within.1 b).short))
 
-pub refused_text : {o p : Outcome Result} (e : Refusal) → p ≡ refused e → p ≡ o → answer_text (refused e) ≡ answer_text o
-refused_text e q h = ap answer_text (sym q ∙ h)
-
--- of what was read
-pub read_text : (s : List ℕ) (job : Sheet) (t : List ℕ) → got job t ≡ sheet s → answer_text (job_outcome job) ≡ answer_to s
-unfolding outcome_of
-read_text s job t e = ap (λ r. answer_text (outcome_of r)) e
-
-pub bad_text : (s : List ℕ) → bad ≡ sheet s → answer_text (refused SheetShape) ≡ answer_to s
-unfolding outcome_of
-bad_text s e = ap (λ r. answer_text (outcome_of r)) e
-
-pub appends_as : {a b out out' : List ℕ} {n n' : ℕ} → a ≡ b → Appends a out n out' n' → Appends b out n out' n'
-appends_as e p = rw e at p
+pub written_err : {o : Outcome Solution} {k : ℕ} {f w out out' : List ℕ} {m : ℕ} {e : Refusal} → Runs o k f w (Err e) → Appends (answer_text (refused e)) out 0 out' m
+    → Appends (answer_text o) out 0 out' m × (m ≤ room)
+written_err {e = e} r p = (appends_as (ap answer_text r.outcome) p, omega (arith, p.count, refusal_few e))
 
 -- ---- the operation
 

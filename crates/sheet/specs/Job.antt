@@ -1,9 +1,8 @@
 -- What a sheet asks for, and the text of the answer.
 use Rattle.std.specs.Prelude.{ℕ, ◌≤◌, List, [], ◌∷◌, ◌++◌, map, leb, length}
 use Rattle.basics.specs.declared.Refusal.TheVariants.{Length, Dependent, SheetShape}
-use Rattle.basics.specs.declared.Answer.{Answer}
 use Rattle.basics.specs.Lists.{written}
-use Rattle.basics.specs.Outcome.{Outcome, refused, accepted, counted, check, number, counts, Meets}
+use Rattle.basics.specs.Outcome.{Answer, Outcome, refused, accepted, counted, check, number, counts, Meets}
 use Rattle.field.specs.Galois.{galois}
 use Rattle.elliptic.specs.declared.Curve.{Curve}
 use Rattle.elliptic.specs.declared.Point.{Point}

@@ -1,10 +1,9 @@
 -- How what the stages of a job answer is read.
-use Rattle.std.specs.Prelude.{ℕ, ◌≤◌, Bool, true, ◌≡◌, List, map, ltb, length, take}
-use Rattle.basics.specs.declared.Refusal.TheVariants.{SheetShape, Dependent}
-use Rattle.basics.specs.declared.Answer.{Answer}
-use Rattle.basics.specs.declared.Answer.TheVariants.{Done, Counted, Refused}
+use Rattle.std.specs.Prelude.{ℕ, ◌≤◌, Bool, true, ◌≡◌, List, map, ltb, length, take, Result, Ok, Err, IfOk}
+use Rattle.basics.specs.declared.Refusal.{Refusal}
+use Rattle.basics.specs.declared.Refusal.TheVariants.{Dependent}
 use Rattle.basics.specs.Lists.{all}
-use Rattle.basics.specs.Outcome.{Outcome, refused, accepted, check}
+use Rattle.basics.specs.Outcome.{Done, Outcome, refused, accepted, check}
 use Rattle.field.specs.Galois.{galois}
 use Rattle.elliptic.specs.Curve.{affine_points, coefficients_of}
 use Rattle.codewords.specs.declared.Parameters.{Parameters}
@@ -16,8 +15,8 @@ use Rattle.text.specs.Reading.{Sheet}
 use Rattle.sheet.specs.Job.{curve_of}
 
 -- a function of k coefficients and a word of n symbols
-abbrev pub Result : Type 0
-Result = List ℕ × List ℕ
+abbrev pub Solution : Type 0
+Solution = List ℕ × List ℕ
 
 abbrev pub job_of : Head → List ℕ → List ℕ → Sheet
 job_of h J msg = record { head = h; places = J; message = msg }
@@ -30,11 +29,11 @@ abbrev pub small : Head → Bool
 small h = all (λ g. ltb g 256) (coefficients_of (curve_of h))
 
 -- the last test, and the result
-abbrev pub solving : Code → List ℕ → List ℕ → Outcome Result
+abbrev pub solving : Code → List ℕ → List ℕ → Outcome Solution
 solving code J msg = check (usable code J) Dependent (accepted (systematic_function code J msg, systematic_word code J msg))
 
 -- the tests behind the code test
-abbrev pub after_code : Code → List ℕ → List ℕ → Outcome Result
+abbrev pub after_code : Code → List ℕ → List ℕ → Outcome Solution
 after_code code J msg = check_length J code.k (check_length msg code.k (check_places code J (check_symbols code msg (solving code J msg))))
 
 -- the code of all points of a curve
@@ -52,25 +51,14 @@ pub record Solvable (code : Code) (J msg : List ℕ) : Type 0 where
   pub differ : places_differ code J ≡ true
   pub are_symbols : symbols code msg ≡ true
 
--- Done with the result in two lists, or refused
-abbrev pub solved : List ℕ → List ℕ → Answer → Outcome Result
-solved f w Done = accepted (f, w)
-solved f w (Counted n) = refused SheetShape
-solved f w (Refused e) = refused e
+-- what is answered where the result stands at the front of two buffers: n is the length of the word
+abbrev pub ran : ℕ → List ℕ → List ℕ → Result ℕ Refusal → Outcome Solution
+ran k f w (Ok n) = accepted (take k f, take n w)
+ran k f w (Err e) = refused e
 
-pub record Solves (o : Outcome Result) (f w : List ℕ) (r : Answer) : Type 0 where
-  pub outcome : solved f w r ≡ o
-  pub uncounted : (n : ℕ) → r ≡ Counted n → ⊥
-
--- the same where the result stands at the front of two buffers: n is what is counted
-abbrev pub ran : ℕ → List ℕ → List ℕ → Answer → Outcome Result
-ran k f w Done = refused SheetShape
-ran k f w (Counted n) = accepted (take k f, take n w)
-ran k f w (Refused e) = refused e
-
-pub record Runs (o : Outcome Result) (k : ℕ) (f w : List ℕ) (r : Answer) : Type 0 where
+pub record Runs (o : Outcome Solution) (k : ℕ) (f w : List ℕ) (r : Result ℕ Refusal) : Type 0 where
   pub outcome : ran k f w r ≡ o
-  pub within : (n : ℕ) → r ≡ Counted n → (k ≤ 288) × (n ≤ 288)
+  pub within : IfOk r (λ n. (k ≤ 288) × (n ≤ 288))
 
 -- room for a function and a word
 abbrev pub Rooms : List ℕ → List ℕ → Type 0

@@ -1,14 +1,13 @@
 // A job: the code of a sheet, and Systematic function and word over it.
-ghost use Rattle.std.specs.Prelude.{◌≡◌, true, ◌≤◌, ◌<◌, length};
-ghost use Rattle.basics.specs.declared.Answer.TheVariants.{Done};
+ghost use Rattle.basics.specs.Outcome.{Done};
+ghost use Rattle.std.specs.Prelude.{◌≡◌, true, ◌≤◌, ◌<◌, length, take};
 ghost use Rattle.basics.specs.Lists.{all};
 ghost use Rattle.code.specs.Lists.{is_below};
 ghost use Rattle.codewords.specs.Code.{code_of, code_answer};
 ghost use Rattle.sheet.specs.Job.{job_outcome, outcome_over};
-ghost use Rattle.sheet.specs.Running.{Runs, Solves, Rooms, Solvable, over_points, after_code, solving, small, parameters_of, job_of};
+ghost use Rattle.sheet.specs.Running.{Runs, Rooms, Solvable, over_points, after_code, solving, small, parameters_of, job_of};
 
-use basics::short::wide;
-use basics::{Answer, Refusal};
+use basics::Refusal;
 use code::test::test_code;
 use coder::systematic_function::systematic_function;
 use coder::systematic_word::systematic_word;
@@ -23,51 +22,20 @@ use text::sheet::Head;
 fn symbols_below(q: usize, message: &[u16]) -> bool
     ensures { result ≡ all (is_below q) message.now }
 {
-    let mut i = 0;
-    while i < message.len() {
-        if q <= wide(message[i]) {
-            return false;
-        }
-        i += 1;
-    }
-    true
+    message.iter().all(|symbol| usize::from(*symbol) < q)
 }
 
-// The symbols as bytes.
+// The symbols as bytes, to the front of a buffer.
 fn narrow(message: &[u16], symbols: &mut [u8])
-    requires { (length message.now ≡ length symbols.old) × (all (is_below 256) message.now ≡ true) }
-    ensures { symbols.new ≡ message.now }
+    requires { (length message.now ≤ length symbols.old) × (all (is_below 256) message.now ≡ true) }
+    ensures { take (length message.now) symbols.new ≡ message.now }
 {
-    let mut i = 0;
-    while i < symbols.len() {
+    for i in 0..message.len() {
         symbols[i] = message[i] as u8;
-        i += 1;
     }
 }
 
-// Function and word of a message that passed every test but that of dependent places.
-fn solve_both(
-    p: Parameters,
-    xs: &[u8],
-    ys: &[u8],
-    places: &[u16],
-    symbols: &[u8],
-    function: &mut [u8],
-    word: &mut [u8],
-    work: &mut [u8],
-) -> Answer
-    requires solvable { Solvable (code_of p xs.now ys.now) places.now symbols.now }
-    requires function_len { (length function.old ≡ p.k) × (length word.old ≡ length xs.now) × (8192 ≤ length work.old) }
-    ensures { Solves (solving (code_of p xs.now ys.now) places.now symbols.now) function.new word.new result }
-{
-    let solved = systematic_function(p, xs, ys, places, symbols, function, work);
-    if let Answer::Done = solved {
-        return systematic_word(p, xs, ys, places, symbols, word, work);
-    }
-    solved
-}
-
-// The same, to the front of two buffers, with the length of the word.
+// Function and word of a message that passed every test but that of dependent places, to the front of two buffers, with the length of the word.
 fn solve_into(
     p: Parameters,
     xs: &[u8],
@@ -76,50 +44,19 @@ fn solve_into(
     symbols: &[u8],
     function: &mut [u8],
     word: &mut [u8],
-) -> Answer
+) -> Result<usize, Refusal>
     requires solvable { Solvable (code_of p xs.now ys.now) places.now symbols.now }
     requires rooms { Rooms function.old word.old }
     ensures { Runs (solving (code_of p xs.now ys.now) places.now symbols.now) p.k function.new word.new result }
 {
-    let k = p.k;
     let n = xs.len();
     let mut work = [0u8; 8192];
-    let solved = solve_both(
-        p,
-        xs,
-        ys,
-        places,
-        symbols,
-        &mut function[..k],
-        &mut word[..n],
-        &mut work,
-    );
-    if let Answer::Done = solved {
-        return Answer::Counted(n);
-    }
-    solved
+    systematic_function(p, xs, ys, places, symbols, &mut function[..p.k], &mut work)?;
+    systematic_word(p, xs, ys, places, symbols, &mut word[..n], &mut work)?;
+    Ok(n)
 }
 
-// The same with symbols that are not bytes yet. An array is lent for them.
-fn solve_narrowed(
-    p: Parameters,
-    xs: &[u8],
-    ys: &[u8],
-    places: &[u16],
-    message: &[u16],
-    symbols: &mut [u8],
-    function: &mut [u8],
-    word: &mut [u8],
-) -> Answer
-    requires solvable { Solvable (code_of p xs.now ys.now) places.now message.now }
-    requires rooms { Rooms function.old word.old × (length symbols.old ≡ 288) }
-    ensures { Runs (solving (code_of p xs.now ys.now) places.now message.now) p.k function.new word.new result }
-{
-    let k = p.k;
-    narrow(message, &mut symbols[..k]);
-    solve_into(p, xs, ys, places, &symbols[..k], function, word)
-}
-
+// The same with symbols that are not bytes yet.
 fn solve_message(
     p: Parameters,
     xs: &[u8],
@@ -128,13 +65,14 @@ fn solve_message(
     message: &[u16],
     function: &mut [u8],
     word: &mut [u8],
-) -> Answer
+) -> Result<usize, Refusal>
     requires solvable { Solvable (code_of p xs.now ys.now) places.now message.now }
     requires rooms { Rooms function.old word.old }
     ensures { Runs (solving (code_of p xs.now ys.now) places.now message.now) p.k function.new word.new result }
 {
     let mut symbols = [0u8; 288];
-    solve_narrowed(p, xs, ys, places, message, &mut symbols, function, word)
+    narrow(message, &mut symbols);
+    solve_into(p, xs, ys, places, &symbols[..message.len()], function, word)
 }
 
 // Numbers 8 to 12, where the code passed its test.
@@ -146,25 +84,22 @@ fn run_tested(
     message: &[u16],
     function: &mut [u8],
     word: &mut [u8],
-) -> Answer
+) -> Result<usize, Refusal>
     requires ys_value { code_answer (code_of p xs.now ys.now) ≡ Done }
     requires rooms { Rooms function.old word.old }
     ensures { Runs (after_code (code_of p xs.now ys.now) places.now message.now) p.k function.new word.new result }
 {
     if places.len() != p.k {
-        return Answer::Refused(Refusal::Length);
+        return Err(Refusal::Length);
     }
     if message.len() != p.k {
-        return Answer::Refused(Refusal::Length);
+        return Err(Refusal::Length);
     }
-    let tested = test_places(xs.len(), places);
-    if let Answer::Done = tested {
-        if !symbols_below(size(p.field), message) {
-            return Answer::Refused(Refusal::Symbol);
-        }
-        return solve_message(p, xs, ys, places, message, function, word);
+    test_places(xs.len(), places)?;
+    if !symbols_below(size(p.field), message) {
+        return Err(Refusal::Symbol);
     }
-    tested
+    solve_message(p, xs, ys, places, message, function, word)
 }
 
 // The code test, and then what is behind it.
@@ -176,55 +111,36 @@ fn run_over(
     message: &[u16],
     function: &mut [u8],
     word: &mut [u8],
-) -> Answer
+) -> Result<usize, Refusal>
     requires { Rooms function.old word.old }
     ensures { Runs (outcome_over (code_of p xs.now ys.now) places.now message.now) p.k function.new word.new result }
 {
-    let tested = test_code(p, xs, ys);
-    if let Answer::Done = tested {
-        return run_tested(p, xs, ys, places, message, function, word);
-    }
-    tested
+    test_code(p, xs, ys)?;
+    run_tested(p, xs, ys, places, message, function, word)
 }
 
-// The points, for which two buffers are lent, and then the job over them.
+// The points, and then the job over them.
 fn run_points(
     p: Parameters,
     places: &[u16],
     message: &[u16],
-    xs: &mut [u8],
-    ys: &mut [u8],
     function: &mut [u8],
     word: &mut [u8],
-) -> Answer
-    requires rooms { Rooms xs.old ys.old }
-    requires rooms_2 { Rooms function.old word.old }
+) -> Result<usize, Refusal>
+    requires { Rooms function.old word.old }
     ensures { Runs (outcome_over (over_points p) places.now message.now) p.k function.new word.new result }
 {
-    let listed = points(p.field, p.curve, xs, ys);
-    if let Answer::Counted(n) = listed {
-        return run_over(p, &xs[..n], &ys[..n], places, message, function, word);
-    }
-    listed
+    let mut xs = [0u8; 288];
+    let mut ys = [0u8; 288];
+    let n = points(p.field, p.curve, &mut xs, &mut ys)?;
+    run_over(p, &xs[..n], &ys[..n], places, message, function, word)
 }
 
 // The coefficients fit bytes.
 fn is_small(h: Head) -> bool
     ensures { result ≡ small h }
 {
-    if 256 <= h.g1 {
-        return false;
-    }
-    if 256 <= h.g2 {
-        return false;
-    }
-    if 256 <= h.g3 {
-        return false;
-    }
-    if 256 <= h.g4 {
-        return false;
-    }
-    h.g6 < 256
+    h.g1 < 256 && h.g2 < 256 && h.g3 < 256 && h.g4 < 256 && h.g6 < 256
 }
 
 fn parameters(h: Head) -> Parameters
@@ -241,7 +157,7 @@ fn parameters(h: Head) -> Parameters
     Parameters {
         field: h.field as u8,
         curve,
-        k: h.k as usize,
+        k: usize::from(h.k),
     }
 }
 
@@ -252,28 +168,18 @@ pub fn run(
     message: &[u16],
     function: &mut [u8],
     word: &mut [u8],
-) -> Answer
+) -> Result<usize, Refusal>
     requires { Rooms function.old word.old }
     ensures { Runs (job_outcome (job_of head places.now message.now)) head.k function.new word.new result }
 {
     if 256 <= head.field {
-        return Answer::Refused(Refusal::FieldNumber);
+        return Err(Refusal::FieldNumber);
     }
     if !is_field(head.field as u8) {
-        return Answer::Refused(Refusal::FieldNumber);
+        return Err(Refusal::FieldNumber);
     }
     if !is_small(head) {
-        return Answer::Refused(Refusal::CurveCoefficient);
+        return Err(Refusal::CurveCoefficient);
     }
-    let mut xs = [0u8; 288];
-    let mut ys = [0u8; 288];
-    run_points(
-        parameters(head),
-        places,
-        message,
-        &mut xs,
-        &mut ys,
-        function,
-        word,
-    )
+    run_points(parameters(head), places, message, function, word)
 }

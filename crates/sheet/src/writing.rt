@@ -1,4 +1,6 @@
 // Writing the answer.
+#![tactic(auto, using(text::proofs::Appending::line_few))]
+
 ghost use Rattle.std.specs.Prelude.{◌≤◌, length};
 ghost use Rattle.basics.specs.Outcome.{refused};
 ghost use Rattle.text.specs.Stages.{Appends};

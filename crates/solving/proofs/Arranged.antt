@@ -24,7 +24,7 @@ use Rattle.values.specs.Values.{Shows, ShownIn, Coordinates, RunsWith, points_in
 use Rattle.values.proofs.Runs.{begun_size}
 use Rattle.arrangement.specs.Arranged.{free_at, rank, Places, Apart, Arranged}
 use Rattle.arrangement.proofs.Arranged.{free_two, free_zero, rank_all, rank_inside, rank_onto}
-use Rattle.solving.specs.Given.{Placed, Laid}
+use Rattle.solving.specs.Given.{Placed, Posed, Laid}
 use Rattle.solving.proofs.Link.{accepted, place_at_lem, all_in_lem, index_in, code_coordinates, pts, small, zero_by}
 
 module _ {code : Code} {J : List ℕ} (p : Placed code J) where
@@ -115,3 +115,9 @@ module _ {code : Code} {J : List ℕ} (p : Placed code J) {px l u : List ℕ} (l
 
   pub laid_high : length u ≡ length code.xs
   laid_high = laid.seconds.size ∙ sym (accepted p).lengths
+
+-- whether L is zero at the k-th place, by its values
+pub laid_zero : {code : Code} {J us px py l₀ : List ℕ} {r : Bool} (g : Posed code J us) → Laid code J px l₀ py
+    → (l u : List ℕ) (z : Sizes) → ShownIn code.field px py (code.k - 1) l u z (after (arithmetic code) (points_in px py) us (code.k - 1)) → r ≡ eqb (get_or (cond z.turned u l) (code.k - 1) 0) 0
+    → r ≡ last_zero (arithmetic code) code.k (points_at code J) us
+laid_zero {us = us} g a l u z shown e = arranged_zero g.placed a.firsts a.seconds us g.are_symbols g.at_least l u z shown e

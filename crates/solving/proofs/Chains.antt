@@ -10,9 +10,9 @@ use native.Mathlib.Omega.{arith}
 use borrow.Author.Tests.{leb-true, le-leb, eq-eqb}
 use Rattle.basics.specs.declared.Refusal.{Refusal}
 use Rattle.basics.specs.declared.Refusal.TheVariants.{Dependent, TooFew}
-use Rattle.basics.specs.declared.Answer.{Answer}
-use Rattle.basics.specs.declared.Answer.TheVariants.{Done, Refused}
-use Rattle.basics.specs.Outcome.{Outcome, accepted, check, answer, left, Meets}
+use Rattle.std.specs.Prelude.{Result, Ok, Err}
+use Rattle.std.specs.Result.{IsErrAnd}
+use Rattle.basics.specs.Outcome.{answer_of, Answer, Done, Refused, Outcome, accepted, check, answer, left, Meets}
 use Rattle.basics.proofs.Outcomes.{check_true, pass, refuse, accept}
 use Rattle.codewords.specs.Code.{Code, n, code_answer}
 use Rattle.codewords.specs.Codewords.{all_places, places_differ, symbols, dependent, usable}
@@ -39,11 +39,18 @@ module _ {M : Type 0} {r : Answer} {old : M} where
   unfolding answer
   stop_end o h d = absurd (d h)
 
+-- a refusal is not Done
+not_done : {e : Refusal} → Refused e ≡ Done → ⊥
+not_done h = let z : ◌≡◌ {A = ℕ} 0 1 = cc in absurd (omega arith)
+
 -- an operation that begins with the tests of places: it goes on where their answer is Done, and else the answer is its own
 module _ (code : Code) (J : List ℕ) where
   pub places_stop : {M : Type 0} {r : Answer} {old : M} (o : Outcome M) → r ≡ places_answer (n code) J → (r ≡ Done → ⊥) → Meets (check_places code J o) r old old
   unfolding all_places places_differ
   places_stop o = stop_check _ _ _ _ (stop_check _ _ _ _ (stop_end o))
+
+  pub places_refused : {M : Type 0} {old : M} (o : Outcome M) {e : Refusal} → Refused e ≡ places_answer (n code) J → Meets (check_places code J o) (Refused e) old old
+  places_refused o h = places_stop o h not_done
 
   module _ (h : places_answer (n code) J ≡ Done) where
     pub places_passed : (all_places code J ≡ true) × (places_differ code J ≡ true)
@@ -107,6 +114,10 @@ module _ (code : Code) (J us : List ℕ) where
 
     pub prepared_stop : {r : Answer} → r ≡ lists_answer code J us → (r ≡ Done → ⊥) → Prepared code J us claim r
     prepared_stop e d = record { answers = (lists_stop {old = tt} _ e d).answers; holds = λ h. absurd (d h) }
+
+    pub prepared_refused : {e : Refusal} (r : Result (Unit {0}) Refusal) → IsErrAnd r (λ d. d ≡ e) → Refused e ≡ lists_answer code J us → Prepared code J us claim (answer_of r)
+    prepared_refused (Ok u) h k = absurd h
+    prepared_refused (Err d) h k = rw h (prepared_stop k not_done)
 
   module _ (h : posed_answer code J us ≡ Done) where
     free : not (eqb (length J) code.k && dependent code J) ≡ true

@@ -9,14 +9,18 @@ use borrow.Author.Tests.{eq-eqb, ne_eqb}
 use lib.Dec.{eqb}
 use lib.ListN.{length, get_or, take}
 use lib.Seq.{take-suc, take_all}
+use Rattle.elliptic.specs.Pair.{evaluate, after}
 use Rattle.codewords.specs.Code.{Code, arithmetic}
 use Rattle.codewords.specs.Codewords.{symbols, dependent, usable, pick}
 use Rattle.codewords.specs.Computed.{points_of, last_zero, last_index}
 use Rattle.codewords.proofs.Choice.{dependent_usable}
 use Rattle.codewords.proofs.Ranks.{all_claim}
 use Rattle.codewords.proofs.Computed.{computed}
-use Rattle.solving.specs.Given.{Placed}
-use Rattle.solving.proofs.Link.{accepted, are_different, are_places, is_dependent}
+use Rattle.engine.specs.declared.pair.Sizes.{Sizes}
+use Rattle.engine.specs.Arrays.{Pair}
+use Rattle.engine.specs.Places.{point_of}
+use Rattle.solving.specs.Given.{Placed, Posed}
+use Rattle.solving.proofs.Link.{accepted, are_different, are_places, is_dependent, pts, zero_last}
 
 pub index_most : (k : ℕ) (b : Bool) → cond b k (k - 1) ≤ k
 index_most k true = omega arith
@@ -82,3 +86,13 @@ module _ {code : Code} {J : List ℕ} (p : Placed code J) (us : List ℕ) (s : s
         by (no more) =
             (computed code p.done).pick_by J us (are_different p) s (omega arith)
             ∙ ap (λ b. take (code.k - 1) J ++ get_or J (index b) 0 ∷ []) (sym e)
+
+-- the last place is one of the list
+pub last_in : {code : Code} {J us : List ℕ} {z : Bool} {i : ℕ} (g : Posed code J us) → z ≡ last_zero (arithmetic code) code.k (points_of code J) us → i ≡ cond z code.k (code.k - 1)
+    → (i ≡ length J → ⊥) → i < length J
+last_in {us = us} g e d o = rw d (index_lt g.placed us g.are_symbols g.at_least e (λ q. o (d ∙ q)))
+
+pub last_lt : {code : Code} {J us l u : List ℕ} {n : Sizes} {a i : ℕ} {r : Bool} (g : Posed code J us) → Pair l u n (after (arithmetic code) (pts g.placed) us (code.k - 1))
+    → a ≡ get_or J (code.k - 1) 0 → r ≡ eqb (evaluate (arithmetic code) (take n.low (cond n.turned u l)) (point_of code.xs code.ys a)) 0 → i ≡ cond r code.k (code.k - 1)
+    → (i ≡ length J → ⊥) → i < length J
+last_lt {us = us} g q x e d o = last_in g (zero_last g.placed us g.are_symbols g.at_least q x e) d o

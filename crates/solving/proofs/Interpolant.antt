@@ -13,7 +13,7 @@ use Rattle.basics.specs.Lists.{Holds, table}
 use Rattle.basics.proofs.Lists.{holds_as, holds_length, is_table}
 use Rattle.field.specs.Sum.{◌⊕◌}
 use Rattle.field.specs.Field.{Arithmetic, Field}
-use Rattle.field.proofs.Field.{ring}
+use Rattle.field.proofs.Laws.{ring}
 use Rattle.elliptic.specs.declared.Point.{Point}
 use Rattle.elliptic.specs.Curve.{point}
 use Rattle.elliptic.specs.Pair.{State, evaluate, add_scaled, corrected, padded, step, after}

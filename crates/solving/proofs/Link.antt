@@ -24,10 +24,11 @@ use Rattle.codewords.proofs.Coordinates as coordinates
 use Rattle.codewords.proofs.Choice.{the_relation, related_function}
 use Rattle.codewords.proofs.Computed.{computed}
 use Rattle.code.specs.Lists.{is_place, is_below}
+use Rattle.engine.specs.declared.pair.Lengths.{Lengths}
 use Rattle.engine.specs.declared.pair.Sizes.{Sizes}
-use Rattle.engine.specs.Arrays.{Pair, Small}
+use Rattle.engine.specs.Arrays.{Pair, Filled, Small, Long, Room, WordRoom}
 use Rattle.engine.specs.Places.{point_of, points_of, Chosen, Within, Runs}
-use Rattle.engine.proofs.States.{low_value}
+use Rattle.engine.proofs.States.{low_value, room, word_room}
 use Rattle.engine.proofs.Runs.{point_at_lem, within_all, runs, small_after}
 use Rattle.values.specs.Values.{Coordinates}
 use Rattle.solving.specs.Given.{Placed, Posed}
@@ -160,3 +161,8 @@ module _ {code : Code} {J : List ℕ} (p : Placed code J) where
 -- symbols at k usable places or more can be solved for
 pub posed_enough : {code : Code} {J us : List ℕ} → Posed code J us → (length J ≡ code.k → usable code J ≡ true) → Enough code J us
 posed_enough g u = record { are_places = are_different g.placed; are_symbols = g.are_symbols; lengths = g.lengths; at_least = g.at_least; works = u }
+
+-- where the run past the first k − 1 places stands, there is room for one more
+pub has_room : {code : Code} {J us l u f : List ℕ} {n : Lengths} (g : Posed code J us) → Filled l u f n (after (arithmetic code) (pts g.placed) us (code.k - 1)) → Long l u → 292 ≤ length f → Room l u n.pair × WordRoom f n
+has_room {code} {us = us} g q long more =
+    let few = small g.placed us g.are_symbols (code.k - 1) (omega arith) (omega (arith, g.at_least)) in (room q.pair few long, word_room q few more)

@@ -9,7 +9,7 @@ use lib.ListN.{length, get_or, set, length-set}
 use lib.Seq.{get_or-set_same, get_or-set_other}
 use Rattle.basics.proofs.Lists.{length_table, get_or_table}
 use Rattle.engine.specs.Places.{coordinate_at}
-use Rattle.arrangement.specs.Arranged.{free_at, rank, Arranged}
+use Rattle.arrangement.specs.Arranged.{free_at, rank}
 use Rattle.arrangement.proofs.Arranged.{free_one, rank_next, rank_all}
 use Rattle.solving.specs.Restored.{Marked, Freed}
 
@@ -59,9 +59,6 @@ module _ {J w f₀ f : List ℕ} {t s : ℕ} (h : Marked J w f₀) (a : FreeTo J
           rw q (ap (λ r. get_or w r 0) here ∙ sym (get_or-set_same f t _ 0 (omega (arith, a.size))))
       done i k e (no q) = a.done i (omega arith) e ∙ sym (get_or-set_other f t i _ 0 q)
 
-pub free_all : {J w f : List ℕ} {t s : ℕ} → FreeTo J w f t s → length w ≤ t → Freed J w f
-free_all a h = record { size = sym a.size; rest = λ i l e. a.done i (omega (arith, a.size)) e }
-
 -- ---- the values at the places
 
 -- those at the first j places are put back too
@@ -97,6 +94,3 @@ module _ {J w f₀ f : List ℕ} {j : ℕ} (h : Marked J w f₀) (a : PutTo J w 
       by i k (no q) =
           a.chosen i (omega arith)
           ∙ sym (get_or-set_other f c (get_or J i 0 - 1) (get_or w j 0) 0 (λ e. h.apart i j (omega arith) l (omega (arith, h.places i (omega arith), h.places j l))))
-
-pub put_all : {J w f : List ℕ} {j : ℕ} → PutTo J w f j → length J ≤ j → Arranged f J (length J) w
-put_all a h = record { size = a.freed.size; chosen = λ i l. a.chosen i (omega arith); rest = a.freed.rest }

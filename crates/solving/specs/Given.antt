@@ -1,8 +1,7 @@
 -- What an operation has in hand once its tests have passed, and what it solves for.
+use Rattle.basics.specs.Outcome.{Answer, Done}
 use Rattle.std.specs.Prelude.{ℕ, ◌≤◌, ◌≡◌, Bool, true, not, ◌&&◌, List, map, eqb, length, get_or}
 use Rattle.std.specs.Int.Bits.{bit_xor}
-use Rattle.basics.specs.declared.Answer.{Answer}
-use Rattle.basics.specs.declared.Answer.TheVariants.{Done}
 use Rattle.basics.specs.Lists.{Holds, table}
 use Rattle.field.specs.Galois.{product, inverse}
 use Rattle.elliptic.specs.Pair.{evaluate}

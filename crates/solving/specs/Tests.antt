@@ -2,9 +2,8 @@
 use Prim.{Unit, tt}
 use Rattle.std.specs.Prelude.{ℕ, not, ◌&&◌, List, ◌++◌, eqb, leb, length, drop, replicate}
 use Rattle.basics.specs.declared.Refusal.TheVariants.{Length, Place, RepeatedPlace, Symbol, Dependent, TooFew}
-use Rattle.basics.specs.declared.Answer.{Answer}
 use Rattle.basics.specs.Lists.{all, different}
-use Rattle.basics.specs.Outcome.{Outcome, accepted, check, answer}
+use Rattle.basics.specs.Outcome.{Answer, Outcome, accepted, check, answer}
 use Rattle.codewords.specs.Code.{Code}
 use Rattle.codewords.specs.Codewords.{all_places, places_differ, symbols, dependent}
 use Rattle.code.specs.Lists.{is_place}

@@ -1,38 +1,28 @@
 // What Systematic word and Rebuild have in common: the tests from number 9 to 12, and the values of the function that is solved for.
+ghost use Rattle.basics.specs.Outcome.{Done, answer_of};
 ghost use Rattle.std.specs.Prelude.{◌≡◌, length};
-ghost use Rattle.basics.specs.declared.Answer.TheVariants.{Done};
-ghost use Rattle.field.specs.Tables.{Tables};
-ghost use Rattle.codewords.specs.Code.{code_of, code_answer};
+ghost use Rattle.code.specs.Shown.{shown};
 ghost use Rattle.solving.specs.Given.{Prepared, solved_word};
 
 use crate::solve_word::solve_word;
 use crate::tests::test_lists;
-use basics::{Answer, Refusal};
-use codewords::Parameters;
+use basics::Refusal;
+use code::accepted::Code;
 
-// The answer of the tests; where it is Done, the values at all points stand in f.
+// The tests; where they pass, the values at all points stand in f.
 pub fn prepare_word(
-    p: Parameters,
-    powers: &[u8; 1021],
-    logs: &[u16; 512],
-    xs: &[u8],
-    ys: &[u8],
+    code: &Code,
     places: &[u16],
     symbols: &[u8],
     f: &mut [u8],
-) -> Answer
-    requires tables { Tables p.field powers.now logs.now }
-    requires ys_value { code_answer (code_of p xs.now ys.now) ≡ Done }
-    requires symbols_len { (length symbols.now ≡ length places.now) × (length f.old ≡ length xs.now) }
-    ensures { Prepared (code_of p xs.now ys.now) places.now symbols.now
-        (f.new ≡ solved_word (code_of p xs.now ys.now) places.now symbols.now) result }
+) -> Result<(), Refusal>
+    requires symbols_len { (length symbols.now ≡ length places.now) × (length f.old ≡ length code.now.xs.now) }
+    ensures { Prepared (shown code.now) places.now symbols.now
+        (f.new ≡ solved_word (shown code.now) places.now symbols.now) (answer_of result) }
 {
-    let tested = test_lists(p, xs, ys, places, symbols);
-    if let Answer::Done = tested {
-        if !solve_word(p, powers, logs, xs, ys, places, symbols, f) {
-            return Answer::Refused(Refusal::Dependent);
-        }
-        return Answer::Done;
+    test_lists(code, places, symbols)?;
+    if !solve_word(code, places, symbols, f) {
+        return Err(Refusal::Dependent);
     }
-    tested
+    Ok(())
 }

@@ -12,11 +12,9 @@ fn restore_free(places: &[u16], w: &[u8], f: &mut [u8])
     ensures { Freed places.now w.now f.new }
 {
     let mut s = places.len() - 1;
-    let mut t = 0;
-    while t < w.len() {
-        s += f[t] as usize;
+    for t in 0..w.len() {
+        s += usize::from(f[t]);
         f[t] = w[s];
-        t += 1;
     }
 }
 
@@ -26,11 +24,9 @@ pub fn restore(places: &[u16], w: &[u8], f: &mut [u8])
     ensures { Arranged f.new places.now (length places.now) w.now }
 {
     restore_free(places, w, f);
-    let mut j = 0;
-    while j < places.len() {
+    for j in 0..places.len() {
         let place = chosen_place(places, MessageIndex(j));
         let i = index_of(place);
         f[i] = w[j];
-        j += 1;
     }
 }

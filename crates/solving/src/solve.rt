@@ -2,9 +2,8 @@
 ghost use Rattle.std.specs.Prelude.{cond, ◌≤◌, length, take};
 ghost use Rattle.basics.specs.Lists.{Holds};
 ghost use Rattle.field.specs.Galois.{galois};
-ghost use Rattle.field.specs.Tables.{Tables};
 ghost use Rattle.elliptic.specs.Pair.{corrected, padded};
-ghost use Rattle.codewords.specs.Code.{code_of};
+ghost use Rattle.code.specs.Shown.{shown};
 ghost use Rattle.engine.specs.Arrays.{Long, Room, WordRoom};
 ghost use Rattle.engine.specs.Places.{point_of, IsPlace};
 ghost use Rattle.solving.specs.Given.{Posed, Solving, HoldsFunction};
@@ -12,16 +11,15 @@ ghost use Rattle.solving.specs.Given.{Posed, Solving, HoldsFunction};
 use crate::last_index::last_index;
 use crate::zero::zero_at;
 use basics::{MessageIndex, Place};
-use codewords::Parameters;
+use code::accepted::Code;
 use engine::pair::{Lengths, extend};
 use engine::places::{chosen_place, message_symbol, point_at};
+use field::Field;
 use interpolation::interpolate::{finish, run};
 
 // F, in f, gains the multiple of L that makes its value at the place v, and becomes k coefficients.
 fn finish_at(
-    m: u8,
-    powers: &[u8; 1021],
-    logs: &[u16; 512],
+    field: &Field,
     xs: &[u8],
     ys: &[u8],
     place: Place,
@@ -32,67 +30,52 @@ fn finish_at(
     f: &mut [u8],
     n: Lengths,
 )
-    requires tables { Tables m powers.now logs.now }
     requires place { IsPlace xs.now ys.now place.0 × Room l.now u.now n.pair × WordRoom f.old n × (n.pair.low ≤ k) × (n.word ≤ k) × (k ≤ length f.old) }
     ensures { Holds f.new k
-        (padded k (corrected (galois m) (point_of xs.now ys.now place.0) v (take n.pair.low (cond n.pair.turned u.now l.now)) (take n.word f.old))) }
+        (padded k (corrected (galois field.now.number) (point_of xs.now ys.now place.0) v (take n.pair.low (cond n.pair.turned u.now l.now)) (take n.word f.old))) }
 {
     let p = point_at(xs, ys, place);
-    let size = finish(m, powers, logs, p, v, l, u, f, n);
+    let size = finish(field, p, v, l, u, f, n);
     extend(f, size, k);
 }
 
 // The function, to the first k of f. There is none where there are k places that are dependent. Two arrays are lent for the pair.
 fn solve_in(
-    p: Parameters,
-    powers: &[u8; 1021],
-    logs: &[u16; 512],
-    xs: &[u8],
-    ys: &[u8],
+    code: &Code,
     places: &[u16],
     symbols: &[u8],
     l: &mut [u8],
     u: &mut [u8],
     f: &mut [u8],
 ) -> bool
-    requires tables { Tables p.field powers.now logs.now }
-    requires posed { Posed (code_of p xs.now ys.now) places.now symbols.now × Long l.old u.old × (292 ≤ length f.old) }
-    ensures { Solving (code_of p xs.now ys.now) places.now
-        (HoldsFunction (code_of p xs.now ys.now) places.now symbols.now f.new) result }
+    requires posed { Posed (shown code.now) places.now symbols.now × Long l.old u.old × (292 ≤ length f.old) }
+    ensures { Solving (shown code.now) places.now
+        (HoldsFunction (shown code.now) places.now symbols.now f.new) result }
 {
-    let m = p.field;
-    let k = p.k;
+    let k = code.k;
     let count = k - 1;
-    let n = run(m, powers, logs, xs, ys, places, symbols, count, l, u, f);
+    let n = run(
+        code.field, code.xs, code.ys, places, symbols, count, l, u, f,
+    );
     let place = chosen_place(places, MessageIndex(count));
-    let zero = zero_at(m, powers, logs, xs, ys, place, l, u, n.pair);
+    let zero = zero_at(code.field, code.xs, code.ys, place, l, u, n.pair);
     let last = last_index(k, zero);
     if last.0 == places.len() {
         return false;
     }
     let at = chosen_place(places, last);
     let v = message_symbol(symbols, last);
-    finish_at(m, powers, logs, xs, ys, at, v, k, l, u, f, n);
+    finish_at(code.field, code.xs, code.ys, at, v, k, l, u, f, n);
     true
 }
 
 // The same with arrays of its own.
-pub fn solve(
-    p: Parameters,
-    powers: &[u8; 1021],
-    logs: &[u16; 512],
-    xs: &[u8],
-    ys: &[u8],
-    places: &[u16],
-    symbols: &[u8],
-    f: &mut [u8],
-) -> bool
-    requires tables { Tables p.field powers.now logs.now }
-    requires posed { Posed (code_of p xs.now ys.now) places.now symbols.now × (292 ≤ length f.old) }
-    ensures { Solving (code_of p xs.now ys.now) places.now
-        (HoldsFunction (code_of p xs.now ys.now) places.now symbols.now f.new) result }
+pub fn solve(code: &Code, places: &[u16], symbols: &[u8], f: &mut [u8]) -> bool
+    requires posed { Posed (shown code.now) places.now symbols.now × (292 ≤ length f.old) }
+    ensures { Solving (shown code.now) places.now
+        (HoldsFunction (shown code.now) places.now symbols.now f.new) result }
 {
     let mut l = [0u8; 292];
     let mut u = [0u8; 292];
-    solve_in(p, powers, logs, xs, ys, places, symbols, &mut l, &mut u, f)
+    solve_in(code, places, symbols, &mut l, &mut u, f)
 }

@@ -2,9 +2,8 @@
 ghost use Rattle.std.specs.Prelude.{◌≡◌, cond, ◌++◌, ◌<◌, ◌≤◌, length, take, drop};
 ghost use Rattle.basics.specs.Lists.{table};
 ghost use Rattle.field.specs.Galois.{galois};
-ghost use Rattle.field.specs.Tables.{Tables};
 ghost use Rattle.elliptic.specs.Pair.{add_scaled};
-ghost use Rattle.codewords.specs.Code.{code_of};
+ghost use Rattle.code.specs.Shown.{shown};
 ghost use Rattle.codewords.specs.Computed.{solution};
 ghost use Rattle.arrangement.specs.Arranged.{free_at};
 ghost use Rattle.values.specs.Values.{Shows};
@@ -15,76 +14,47 @@ use crate::restore::restore;
 use crate::zero::zero_chosen;
 use arrangement::arrange::{arrange, fill_ones, mark};
 use basics::MessageIndex;
-use codewords::Parameters;
+use code::accepted::Code;
 use engine::pair::Sizes;
 use engine::places::message_symbol;
 use engine::slices::{add_scaled, copy};
-use field::quotient;
+use field::Field;
 use values::run::run;
 
 // The points with those at the places first, and L = 1 and U = Y by their values there. f marks the points that are at none.
-fn lay_out(
-    p: Parameters,
-    xs: &[u8],
-    ys: &[u8],
-    places: &[u16],
-    px: &mut [u8],
-    l: &mut [u8],
-    u: &mut [u8],
-    f: &mut [u8],
-)
-    requires placed { Placed (code_of p xs.now ys.now) places.now }
-    requires px_len { (length px.old ≡ length xs.now) × (length l.old ≡ length xs.now) × (length u.old ≡ length xs.now) × (length f.old ≡ length xs.now) }
-    ensures { Laid (code_of p xs.now ys.now) places.now px.new l.new u.new
-        × (f.new ≡ table (free_at places.now) (length xs.now)) }
+fn lay_out(code: &Code, places: &[u16], px: &mut [u8], l: &mut [u8], u: &mut [u8], f: &mut [u8])
+    requires placed { Placed (shown code.now) places.now }
+    requires px_len { (length px.old ≡ length code.now.xs.now) × (length l.old ≡ length code.now.xs.now) × (length u.old ≡ length code.now.xs.now) × (length f.old ≡ length code.now.xs.now) }
+    ensures { Laid (shown code.now) places.now px.new l.new u.new
+        × (f.new ≡ table (free_at places.now) (length code.now.xs.now)) }
 {
     mark(places, f);
-    arrange(places, f, xs, px);
-    arrange(places, f, ys, u);
+    arrange(places, f, code.xs, px);
+    arrange(places, f, code.ys, u);
     fill_ones(l);
 }
 
 // F, in f, gains the multiple of L, in l, that makes it v at the point of the message index.
-fn correct(
-    m: u8,
-    powers: &[u8; 1021],
-    logs: &[u16; 512],
-    index: MessageIndex,
-    v: u8,
-    l: &[u8],
-    f: &mut [u8],
-)
-    requires tables { Tables m powers.now logs.now }
+fn correct(field: &Field, index: MessageIndex, v: u8, l: &[u8], f: &mut [u8])
     requires index_in_bounds { (index.0 < length l.now) × (length l.now ≡ length f.old) }
-    ensures { f.new ≡ add_scaled (galois m) (missing m index.0 v l.now f.old) l.now f.old }
+    ensures { f.new ≡ add_scaled (galois field.now.number) (missing field.now.number index.0 v l.now f.old) l.now f.old }
 {
     let j = index.0;
-    let e = quotient(m, powers, logs, v ^ f[j], l[j]);
-    add_scaled(m, powers, logs, e, l, f);
+    let e = field.quotient(v ^ f[j], l[j]);
+    add_scaled(field, e, l, f);
 }
 
 // The same, with L in either array.
-fn correct_at(
-    m: u8,
-    powers: &[u8; 1021],
-    logs: &[u16; 512],
-    index: MessageIndex,
-    v: u8,
-    l: &[u8],
-    u: &[u8],
-    f: &mut [u8],
-    n: Sizes,
-)
-    requires tables { Tables m powers.now logs.now }
+fn correct_at(field: &Field, index: MessageIndex, v: u8, l: &[u8], u: &[u8], f: &mut [u8], n: Sizes)
     requires index_in_bounds { (index.0 < length f.old) × (length l.now ≡ length f.old) × (length u.now ≡ length f.old) }
-    ensures { f.new ≡ add_scaled (galois m) (missing m index.0 v (cond n.turned u.now l.now) f.old)
+    ensures { f.new ≡ add_scaled (galois field.now.number) (missing field.now.number index.0 v (cond n.turned u.now l.now) f.old)
         (cond n.turned u.now l.now) f.old }
 {
     let turned = n.turned;
     if turned {
-        correct(m, powers, logs, index, v, u, f);
+        correct(field, index, v, u, f);
     } else {
-        correct(m, powers, logs, index, v, l, f);
+        correct(field, index, v, l, f);
     }
 }
 
@@ -98,11 +68,7 @@ fn put_symbols(symbols: &[u8], count: usize, f: &mut [u8])
 
 // The values at the points with those at the places first, to f. There are none where there are k places that are dependent.
 fn solve_laid(
-    p: Parameters,
-    powers: &[u8; 1021],
-    logs: &[u16; 512],
-    xs: &[u8],
-    ys: &[u8],
+    code: &Code,
     places: &[u16],
     symbols: &[u8],
     px: &[u8],
@@ -110,33 +76,27 @@ fn solve_laid(
     u: &mut [u8],
     f: &mut [u8],
 ) -> bool
-    requires tables { Tables p.field powers.now logs.now }
-    requires posed { Posed (code_of p xs.now ys.now) places.now symbols.now × Laid (code_of p xs.now ys.now) places.now px.now l.old u.old × (length f.old ≡ length px.now) }
-    ensures { Solving (code_of p xs.now ys.now) places.now
-        (Shows p.field px.now u.old 0 (solution (code_of p xs.now ys.now) places.now symbols.now) f.new) result }
+    requires posed { Posed (shown code.now) places.now symbols.now × Laid (shown code.now) places.now px.now l.old u.old × (length f.old ≡ length px.now) }
+    ensures { Solving (shown code.now) places.now
+        (Shows code.now.field.now.number px.now u.old 0 (solution (shown code.now) places.now symbols.now) f.new) result }
 {
-    let m = p.field;
-    let k = p.k;
+    let k = code.k;
     let count = k - 1;
-    let n = run(m, powers, logs, px, symbols, count, l, u, f);
+    let n = run(code.field, px, symbols, count, l, u, f);
     let zero = zero_chosen(MessageIndex(count), l, u, n);
     let last = last_index(k, zero);
     if last.0 == places.len() {
         return false;
     }
     let v = message_symbol(symbols, last);
-    correct_at(m, powers, logs, last, v, l, u, f, n);
+    correct_at(code.field, last, v, l, u, f, n);
     put_symbols(symbols, count, f);
     true
 }
 
 // The values at all points, to f. Arrays are lent for the points, the pair and the values in their order.
 fn solve_word_in(
-    p: Parameters,
-    powers: &[u8; 1021],
-    logs: &[u16; 512],
-    xs: &[u8],
-    ys: &[u8],
+    code: &Code,
     places: &[u16],
     symbols: &[u8],
     px: &mut [u8],
@@ -145,14 +105,13 @@ fn solve_word_in(
     w: &mut [u8],
     f: &mut [u8],
 ) -> bool
-    requires tables { Tables p.field powers.now logs.now }
-    requires posed { Posed (code_of p xs.now ys.now) places.now symbols.now × (length f.old ≡ length xs.now) }
-    requires px_len { (length px.old ≡ length xs.now) × (length l.old ≡ length xs.now) × (length u.old ≡ length xs.now) × (length w.old ≡ length xs.now) }
-    ensures { Solving (code_of p xs.now ys.now) places.now
-        (f.new ≡ solved_word (code_of p xs.now ys.now) places.now symbols.now) result }
+    requires posed { Posed (shown code.now) places.now symbols.now × (length f.old ≡ length code.now.xs.now) }
+    requires px_len { (length px.old ≡ length code.now.xs.now) × (length l.old ≡ length code.now.xs.now) × (length u.old ≡ length code.now.xs.now) × (length w.old ≡ length code.now.xs.now) }
+    ensures { Solving (shown code.now) places.now
+        (f.new ≡ solved_word (shown code.now) places.now symbols.now) result }
 {
-    lay_out(p, xs, ys, places, px, l, u, f);
-    if !solve_laid(p, powers, logs, xs, ys, places, symbols, px, l, u, w) {
+    lay_out(code, places, px, l, u, f);
+    if !solve_laid(code, places, symbols, px, l, u, w) {
         return false;
     }
     restore(places, w, f);
@@ -160,32 +119,18 @@ fn solve_word_in(
 }
 
 // The same with arrays of its own: 1,152 bytes.
-pub fn solve_word(
-    p: Parameters,
-    powers: &[u8; 1021],
-    logs: &[u16; 512],
-    xs: &[u8],
-    ys: &[u8],
-    places: &[u16],
-    symbols: &[u8],
-    f: &mut [u8],
-) -> bool
-    requires tables { Tables p.field powers.now logs.now }
-    requires posed { Posed (code_of p xs.now ys.now) places.now symbols.now × (length f.old ≡ length xs.now) }
-    ensures { Solving (code_of p xs.now ys.now) places.now
-        (f.new ≡ solved_word (code_of p xs.now ys.now) places.now symbols.now) result }
+pub fn solve_word(code: &Code, places: &[u16], symbols: &[u8], f: &mut [u8]) -> bool
+    requires posed { Posed (shown code.now) places.now symbols.now × (length f.old ≡ length code.now.xs.now) }
+    ensures { Solving (shown code.now) places.now
+        (f.new ≡ solved_word (shown code.now) places.now symbols.now) result }
 {
-    let n = xs.len();
+    let n = code.xs.len();
     let mut px = [0u8; 288];
     let mut l = [0u8; 288];
     let mut u = [0u8; 288];
     let mut w = [0u8; 288];
     solve_word_in(
-        p,
-        powers,
-        logs,
-        xs,
-        ys,
+        code,
         places,
         symbols,
         &mut px[..n],

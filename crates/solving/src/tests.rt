@@ -1,42 +1,37 @@
 // The tests of places and symbols that operations have in common, in the order of their numbers.
+ghost use Rattle.basics.specs.Outcome.{answer_of};
 ghost use Rattle.std.specs.Prelude.{◌≡◌, ◌≤◌};
-ghost use Rattle.basics.specs.declared.Answer.TheVariants.{Done};
-ghost use Rattle.codewords.specs.Code.{code_of, code_answer};
+ghost use Rattle.code.specs.Shown.{shown};
 ghost use Rattle.solving.specs.Tests.{places_answer, lists_answer};
 
-use basics::{Answer, Refusal};
+use basics::Refusal;
+use code::accepted::Code;
 use code::lists::{all_below, all_different, all_places};
-use codewords::Parameters;
-use field::size;
 
-// The answer of the tests of places: numbers 9 and 10, where there are n points.
-pub fn test_places(n: usize, places: &[u16]) -> Answer
+// The tests of places: numbers 9 and 10, where there are n points.
+pub fn test_places(n: usize, places: &[u16]) -> Result<(), Refusal>
     requires { n ≤ 288 }
-    ensures { result ≡ places_answer n places.now }
+    ensures { answer_of result ≡ places_answer n places.now }
 {
     if !all_places(n, places) {
-        return Answer::Refused(Refusal::Place);
+        return Err(Refusal::Place);
     }
     if !all_different(places) {
-        return Answer::Refused(Refusal::RepeatedPlace);
+        return Err(Refusal::RepeatedPlace);
     }
-    Answer::Done
+    Ok(())
 }
 
-// The answer of the tests of places and symbols: these, and numbers 11 and 13.
-pub fn test_lists(p: Parameters, xs: &[u8], ys: &[u8], places: &[u16], symbols: &[u8]) -> Answer
-    requires { code_answer (code_of p xs.now ys.now) ≡ Done }
-    ensures { result ≡ lists_answer (code_of p xs.now ys.now) places.now symbols.now }
+// The tests of places and symbols: these, and numbers 11 and 13.
+pub fn test_lists(code: &Code, places: &[u16], symbols: &[u8]) -> Result<(), Refusal>
+    ensures { answer_of result ≡ lists_answer (shown code.now) places.now symbols.now }
 {
-    let tested = test_places(xs.len(), places);
-    if let Answer::Done = tested {
-        if !all_below(size(p.field), symbols) {
-            return Answer::Refused(Refusal::Symbol);
-        }
-        if places.len() < p.k {
-            return Answer::Refused(Refusal::TooFew);
-        }
-        return Answer::Done;
+    test_places(code.xs.len(), places)?;
+    if !all_below(code.field.size(), symbols) {
+        return Err(Refusal::Symbol);
     }
-    tested
+    if places.len() < code.k {
+        return Err(Refusal::TooFew);
+    }
+    Ok(())
 }

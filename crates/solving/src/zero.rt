@@ -1,7 +1,6 @@
 // Whether L is zero at a point: at the last of k places, these are dependent. L is given by its coefficients, or by its values at points.
 ghost use Rattle.std.specs.Prelude.{◌≡◌, cond, ◌<◌, eqb, length, take, get_or};
 ghost use Rattle.field.specs.Galois.{galois};
-ghost use Rattle.field.specs.Tables.{Tables};
 ghost use Rattle.elliptic.specs.Pair.{evaluate};
 ghost use Rattle.engine.specs.Arrays.{Room};
 ghost use Rattle.engine.specs.Places.{point_of, IsPlace};
@@ -9,13 +8,12 @@ ghost use Rattle.engine.specs.Places.{point_of, IsPlace};
 use basics::{MessageIndex, Place};
 use engine::pair::Sizes;
 use engine::places::point_at;
+use field::Field;
 use interpolation::interpolate::low_at;
 
 // L, by its coefficients, is zero at the place.
 pub fn zero_at(
-    m: u8,
-    powers: &[u8; 1021],
-    logs: &[u16; 512],
+    field: &Field,
     xs: &[u8],
     ys: &[u8],
     place: Place,
@@ -23,12 +21,11 @@ pub fn zero_at(
     u: &[u8],
     n: Sizes,
 ) -> bool
-    requires tables { Tables m powers.now logs.now }
     requires place { IsPlace xs.now ys.now place.0 × Room l.now u.now n }
-    ensures { result ≡ eqb (evaluate (galois m) (take n.low (cond n.turned u.now l.now)) (point_of xs.now ys.now place.0)) 0 }
+    ensures { result ≡ eqb (evaluate (galois field.now.number) (take n.low (cond n.turned u.now l.now)) (point_of xs.now ys.now place.0)) 0 }
 {
     let p = point_at(xs, ys, place);
-    low_at(m, powers, logs, p, l, u, n) == 0
+    low_at(field, p, l, u, n) == 0
 }
 
 // The value of L with index j is zero.

@@ -8,7 +8,7 @@ use native.Mathlib.Nat.{sub-zero}
 use native.Mathlib.Numerals.{add-one}
 use lib.ListN.{length, take, drop, set, length-set}
 use lib.Seq.{take-suc-set}
-use Rattle.text.specs.declared.reading.Listed.TheVariants.{Count, NoList}
+use Rattle.std.specs.Prelude.{Some, None}
 use Rattle.text.specs.Text.{comma}
 use Rattle.text.specs.Reading.{Read, bad, got, then, before, is_next, number, numbers}
 use Rattle.text.specs.Stages.{Lists}
@@ -55,8 +55,8 @@ pub one_set : (out : List ℕ) (count v : ℕ) → count < length out → take (
 one_set out count v h = rw add-one (take-suc-set out count v h)
 
 module _ (s out : List ℕ) {r : Read (List ℕ)} where
-  pub lists_none : bad ≡ r → Lists s out NoList r
+  pub lists_none : bad ≡ r → Lists s out None r
   lists_none e = record { reads = e; within = omega arith }
 
-  pub lists_last : (count v next : ℕ) → count < length out → got (take count out ++ v ∷ []) (drop next s) ≡ r → Lists s (set out count v) (Count (count + 1) next) r
+  pub lists_last : (count v next : ℕ) → count < length out → got (take count out ++ v ∷ []) (drop next s) ≡ r → Lists s (set out count v) (Some (record { count = count + 1; next = next })) r
   lists_last count v next h e = record { reads = rw (one_set out count v h) e; within = rw (length-set out count v) (omega arith) }

@@ -6,12 +6,12 @@ use native.Mathlib.Omega.{arith}
 use borrow.Author.Tests.{eq-eqb, ne_eqb, le-leb, lt-leb}
 use lib.ListN.{length}
 use Rattle.text.specs.declared.sheet.Head.{Head}
-use Rattle.text.specs.declared.sheet.Parsed.TheVariants.{Misshapen}
+use Rattle.std.specs.Prelude.{None}
 use Rattle.text.specs.Stages.{Parses}
 use Rattle.text.specs.Text.{field_key, curve_key, dimension_key, places_key, message_key}
 use Rattle.text.specs.Reading.{Read, bad, got, then, line, exactly, head_of, header, Sheet, lists, sheet}
 
-pub none : (J msg : List ℕ) {r : Read Sheet} → bad ≡ r → Parses J msg Misshapen r
+pub none : (J msg : List ℕ) {r : Read Sheet} → bad ≡ r → Parses J msg None r
 none J msg e = record { reads = e; places_within = omega arith; symbols_within = omega arith }
 
 module _ (s : List ℕ) where

@@ -3,7 +3,7 @@ ghost use Rattle.std.specs.Prelude.{◌≡◌, length, drop};
 ghost use Rattle.text.specs.Reading.{header, lists, sheet};
 ghost use Rattle.text.specs.Stages.{header_in, Parses};
 
-use crate::reading::{Found, Listed, read_exactly, read_line};
+use crate::reading::{read_exactly, read_line};
 
 // The longest sheet.
 const MOST: usize = 4096;
@@ -22,37 +22,29 @@ pub struct Head {
 
 // The first three lines, and the position behind them.
 #[derive(Clone, Copy)]
-pub enum Header {
-    Top(Head, usize),
-    NoHeader,
+pub struct Header {
+    pub head: Head,
+    pub next: usize,
 }
 
 // A sheet: the first three lines, and how many places and symbols there are.
 #[derive(Clone, Copy)]
-pub enum Parsed {
-    Whole(Head, usize, usize),
-    Misshapen,
+pub struct Parsed {
+    pub head: Head,
+    pub places: usize,
+    pub symbols: usize,
 }
 
 // Field, curve and dimension.
-fn read_header(s: &[u8]) -> Header
+fn read_header(s: &[u8]) -> Option<Header>
     ensures { header_in s.now result ≡ header s.now }
 {
     let mut field = [0u16; 1];
     let mut curve = [0u16; 5];
     let mut dimension = [0u16; 1];
-    let first = read_exactly(s, 0, b"field=", &mut field);
-    let Found::At(second_line) = first else {
-        return Header::NoHeader;
-    };
-    let second = read_exactly(s, second_line, b"curve=", &mut curve);
-    let Found::At(third_line) = second else {
-        return Header::NoHeader;
-    };
-    let third = read_exactly(s, third_line, b"dimension=", &mut dimension);
-    let Found::At(next) = third else {
-        return Header::NoHeader;
-    };
+    let second = read_exactly(s, 0, b"field=", &mut field)?;
+    let third = read_exactly(s, second, b"curve=", &mut curve)?;
+    let next = read_exactly(s, third, b"dimension=", &mut dimension)?;
     let head = Head {
         field: field[0],
         g1: curve[0],
@@ -62,39 +54,40 @@ fn read_header(s: &[u8]) -> Header
         g6: curve[4],
         k: dimension[0],
     };
-    Header::Top(head, next)
+    Some(Header { head, next })
 }
 
 // Places and message, and nothing behind them.
-fn read_lists(s: &[u8], start: usize, head: Head, places: &mut [u16], message: &mut [u16]) -> Parsed
+fn read_lists(
+    s: &[u8],
+    start: usize,
+    head: Head,
+    places: &mut [u16],
+    message: &mut [u16],
+) -> Option<Parsed>
     requires { (length places.old ≡ 288) × (length message.old ≡ 288) }
     ensures { Parses places.new message.new result (lists head (drop start s.now)) }
 {
-    let first = read_line(s, start, b"places=", places);
-    let Listed::Count(many, next) = first else {
-        return Parsed::Misshapen;
-    };
-    let second = read_line(s, next, b"message=", message);
-    let Listed::Count(count, end) = second else {
-        return Parsed::Misshapen;
-    };
-    if end < s.len() {
-        return Parsed::Misshapen;
+    let first = read_line(s, start, b"places=", places)?;
+    let second = read_line(s, first.next, b"message=", message)?;
+    if second.next < s.len() {
+        return None;
     }
-    Parsed::Whole(head, many, count)
+    Some(Parsed {
+        head,
+        places: first.count,
+        symbols: second.count,
+    })
 }
 
 // The five lines, where they are of at most 4,096 bytes.
-pub fn read_sheet(s: &[u8], places: &mut [u16], message: &mut [u16]) -> Parsed
+pub fn read_sheet(s: &[u8], places: &mut [u16], message: &mut [u16]) -> Option<Parsed>
     requires { (length places.old ≡ 288) × (length message.old ≡ 288) }
     ensures { Parses places.new message.new result (sheet s.now) }
 {
     if MOST < s.len() {
-        return Parsed::Misshapen;
+        return None;
     }
-    let top = read_header(s);
-    let Header::Top(head, next) = top else {
-        return Parsed::Misshapen;
-    };
-    read_lists(s, next, head, places, message)
+    let top = read_header(s)?;
+    read_lists(s, top.next, top.head, places, message)
 }

@@ -18,10 +18,8 @@ fn put_bytes(out: &mut [u8], start: usize, bytes: &[u8]) -> usize
     ensures { Appends bytes.now out.old start out.new result }
 {
     let mut at = start;
-    let mut i = 0;
-    while i < bytes.len() {
+    for i in 0..bytes.len() {
         at = put(out, at, bytes[i]);
-        i += 1;
     }
     at
 }
@@ -56,11 +54,9 @@ fn put_following(out: &mut [u8], start: usize, l: &[u8]) -> usize
     ensures { Appends (following l.now) out.old start out.new result }
 {
     let mut at = start;
-    let mut i = 0;
-    while i < l.len() {
+    for i in 0..l.len() {
         let next = put(out, at, b',');
         at = put_number(out, next, l[i]);
-        i += 1;
     }
     at
 }

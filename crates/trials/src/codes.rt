@@ -3,18 +3,20 @@ ghost use Rattle.std.specs.Prelude.{◌≤◌, ◌<◌};
 
 use crate::choose::{at_random, elements};
 use crate::lists::gather;
-use crate::memory::{places, symbols};
+use crate::memory::MOST;
 use crate::random::{below, symbol};
-use crate::tally::count_of;
 use codewords::Parameters;
 use curve::points;
 use elliptic::Curve;
 
-// A code of n points, or none where n is 0.
+// A code of n points, which stand in front of the lists.
 #[derive(Clone, Copy)]
 pub struct Drawn {
     pub code: Parameters,
     pub n: usize,
+    pub xs: [u8; MOST],
+    pub ys: [u8; MOST],
+    pub ghost small: { (code.k ≤ 288) × (n ≤ 288) },
 }
 
 fn random_curve(state: &mut u64, q: usize) -> Curve
@@ -29,57 +31,27 @@ fn random_curve(state: &mut u64, q: usize) -> Curve
     }
 }
 
-fn smaller(a: usize, b: usize) -> usize
-    ensures { (result ≤ a) × (result ≤ b) }
-{
-    if a < b { a } else { b }
-}
-
-fn sized(m: u8, curve: Curve, k: usize, n: usize) -> Drawn
-    requires { (k ≤ 288) × (n ≤ 288) }
-    ensures { (result.code.k ≤ 288) × (result.n ≤ 288) }
-{
-    let code = Parameters { field: m, curve, k };
-    Drawn { code, n }
-}
-
-// A code of n of the points.
-fn draw_points(
-    state: &mut u64,
-    m: u8,
-    curve: Curve,
-    count: usize,
-    n: usize,
-    all_x: &[u8],
-    all_y: &[u8],
-    xs: &mut [u8],
-    ys: &mut [u8],
-) -> Drawn
-    requires { (count ≤ 288) × (2 ≤ n) × (n ≤ 288) }
-    ensures { (result.code.k ≤ 288) × (result.n ≤ 288) }
-{
-    let mut order = places();
-    at_random(state, count, &mut order);
-    gather(all_x, &order, xs);
-    gather(all_y, &order, ys);
-    let k = 1 + below(state, n - 1);
-    sized(m, curve, k, n)
-}
-
-// A code of at most `most` points, which stand in front of the lists; none if the curve is singular or has less than two points.
-pub fn draw_code(state: &mut u64, m: u8, most: usize, xs: &mut [u8], ys: &mut [u8]) -> Drawn
-    ensures { (result.code.k ≤ 288) × (result.n ≤ 288) }
-{
+// A code of at most `most` points; none if the curve is singular or has less than two points.
+pub fn draw_code(state: &mut u64, m: u8, most: usize) -> Option<Drawn> {
     let curve = random_curve(state, elements(m));
-    let mut all_x = symbols();
-    let mut all_y = symbols();
-    let count = smaller(count_of(points(m, curve, &mut all_x, &mut all_y)), 288);
+    let mut all_x = [0; MOST];
+    let mut all_y = [0; MOST];
+    let listed = points(m, curve, &mut all_x, &mut all_y).ok()?;
+    let count = listed.min(MOST);
     if count < 2 {
-        return sized(m, curve, 0, 0);
+        return None;
     }
-    let n = smaller(2 + below(state, count - 1), most);
+    let n = most.min(2 + below(state, count - 1));
     if n < 2 {
-        return sized(m, curve, 0, 0);
+        return None;
     }
-    draw_points(state, m, curve, count, n, &all_x, &all_y, xs, ys)
+    let mut order = [0; MOST];
+    let mut xs = [0; MOST];
+    let mut ys = [0; MOST];
+    at_random(state, count, &mut order);
+    gather(&all_x, &order, &mut xs);
+    gather(&all_y, &order, &mut ys);
+    let k = 1 + below(state, n - 1);
+    let code = Parameters { field: m, curve, k };
+    Some(Drawn { code, n, xs, ys })
 }

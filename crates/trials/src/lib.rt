@@ -3,6 +3,7 @@
 
 pub mod choose;
 pub mod codes;
+pub mod eighty;
 pub mod lists;
 pub mod memory;
 pub mod random;

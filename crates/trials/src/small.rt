@@ -4,32 +4,37 @@ ghost use Rattle.std.specs.Prelude.{◌≡◌};
 use codewords::Parameters;
 use elliptic::Curve;
 
-pub fn curve_a() -> Curve {
-    Curve {
-        g1: 0,
-        g2: 0,
-        g3: 1,
-        g4: 0,
-        g6: 0,
-    }
-}
+pub const CURVE_A: Curve = Curve {
+    g1: 0,
+    g2: 0,
+    g3: 1,
+    g4: 0,
+    g6: 0,
+};
 
-pub fn curve_b() -> Curve {
-    Curve {
-        g1: 1,
-        g2: 0,
-        g3: 0,
-        g4: 0,
-        g6: 1,
-    }
-}
+pub const CURVE_B: Curve = Curve {
+    g1: 1,
+    g2: 0,
+    g3: 0,
+    g4: 0,
+    g6: 1,
+};
+
+pub const XS_A: [u8; 8] = [0, 0, 1, 1, 2, 2, 3, 3];
+
+pub const YS_A: [u8; 8] = [0, 1, 2, 3, 2, 3, 2, 3];
+
+// The points of B, which the document does not list: (0, 1) is its own opposite, and the others are three pairs.
+pub const XS_B: [u8; 7] = [0, 1, 1, 2, 2, 3, 3];
+
+pub const YS_B: [u8; 7] = [1, 0, 1, 0, 2, 0, 3];
 
 pub fn a(k: usize) -> Parameters
     ensures { result.k ≡ k }
 {
     Parameters {
         field: 2,
-        curve: curve_a(),
+        curve: CURVE_A,
         k,
     }
 }
@@ -39,24 +44,7 @@ pub fn b(k: usize) -> Parameters
 {
     Parameters {
         field: 2,
-        curve: curve_b(),
+        curve: CURVE_B,
         k,
     }
-}
-
-pub fn xs_a() -> [u8; 8] {
-    [0, 0, 1, 1, 2, 2, 3, 3]
-}
-
-pub fn ys_a() -> [u8; 8] {
-    [0, 1, 2, 3, 2, 3, 2, 3]
-}
-
-// The points of B, which the document does not list: (0, 1) is its own opposite, and the others are three pairs.
-pub fn xs_b() -> [u8; 7] {
-    [0, 1, 1, 2, 2, 3, 3]
-}
-
-pub fn ys_b() -> [u8; 7] {
-    [1, 0, 1, 0, 2, 0, 3]
 }

@@ -16,7 +16,9 @@ use Rattle.patterns.specs.Cheapest.{weigh, cheaper, cheapest}
 use Rattle.patterns.proofs.Linear.{get_or_add}
 use Rattle.patterns.proofs.Runs.{cheapest_append, keeps, takes}
 use Rattle.patterns.proofs.Slots.{weight_saved}
-use Rattle.tries.specs.Gathered.{multiple_of, Gathered, Within}
+use Rattle.field.specs.Tables.{logarithm, product_by_log}
+use Rattle.field.proofs.Lookup.{by_log}
+use Rattle.tries.specs.Gathered.{multiple_of, Gathered, GatheredWith, Within}
 use Rattle.tries.specs.Multiples.{Priced, price_of, slot_tries, half_tries, multiple_tries, Rows, InHalf, best_multiple}
 
 -- ---- the loop over the slots
@@ -52,6 +54,11 @@ module _ (fx : ℕ) (slots : List ℕ) (half from : ℕ) (best : Priced) where
     tried_keeps l a b = ap₂ (λ (c e : ℕ). (c, e)) a b ∙ sym (keeps price_of p (fx - get_or slots j 0, multiple_of half j) l) ∙ turn
 
 -- ---- what the slots say is what the multiples cost
+
+-- what was gathered with the logarithm of a factor
+pub by_factor : {m : ℕ} → IsField m → (late ds : List ℕ) {half log d cost : ℕ} {ts rs slots : List ℕ} → GatheredWith m half log ts rs late ds cost slots → log ≡ logarithm m d
+    → d < 256 → Gathered m half ts rs (add_scaled (galois m) d late ds) cost slots
+by_factor {m} h late ds {d = d} g e small = g d (λ b. ap (λ k. product_by_log m k b) e ∙ by_log h d b small)
 
 module _ {m : ℕ} (h : IsField m) {ts ds late rs : List ℕ} (R : Rows m ts ds late rs) (d : ℕ) where
   abbrev xs : List ℕ

@@ -9,7 +9,6 @@ use lib.Bits.{bit_or, bit_xor, or_add_and, and_le_r}
 use lib.Dec.{eqb}
 use lib.ListN.{length, get_or, set, drop, replicate, length-set, length-replicate, get_or-replicate, drop_of_length-le}
 use lib.Seq.{get_or-set_same, get_or-set_other}
-use mir.Val.{bool_byte}
 use borrow.Author.Tests.{eq-eqb, ne_eqb}
 use Rattle.basics.proofs.Loops.{next}
 use Rattle.field.specs.Sum.{◌⊕◌}
@@ -22,11 +21,11 @@ use Rattle.elliptic.specs.Pair.{add_scaled}
 use Rattle.elliptic.proofs.Function.{length_add}
 use Rattle.patterns.specs.Slots.{always, saves, fixed, saved}
 use Rattle.patterns.proofs.Linear.{get_or_add}
-use Rattle.tries.specs.Gathered.{multiple_of, Saved, GatheredWith, Room}
+use Rattle.tries.specs.Gathered.{multiple_of, Saved, GatheredWith}
 
--- ---- a test as a number
+-- ---- a trust where a test holds
 
-pub bit_le : (t : ℕ) (b : Bool) → t * bool_byte b ≤ t
+pub bit_le : (t : ℕ) (b : Bool) → cond b t 0 ≤ t
 bit_le t true = omega arith
 bit_le t false = omega arith
 
@@ -35,10 +34,10 @@ either_bits : (r x : ℕ) → (r ≡ 0 → ⊥) → bit_or r x ≡ 0 → ⊥
 either_bits r x n e = n (omega (arith, or_add_and r x, and_le_r r x))
 
 module _ (F : Arithmetic) (t r x : ℕ) where
-  pub always_bit : t * bool_byte (not (eqb (bit_or r x) 0)) ≡ always F t r x
+  pub always_bit : cond (not (eqb (bit_or r x) 0)) t 0 ≡ always F t r x
   always_bit = by (ℕ_discrete r 0) (ℕ_discrete x 0)
     where
-      by : Dec (r ≡ 0) → Dec (x ≡ 0) → t * bool_byte (not (eqb (bit_or r x) 0)) ≡ always F t r x
+      by : Dec (r ≡ 0) → Dec (x ≡ 0) → cond (not (eqb (bit_or r x) 0)) t 0 ≡ always F t r x
       by (yes z) (yes y) = rw (z, y) (omega arith)
       by (yes z) (no n) = rw (z, ne_eqb x 0 n, ne_eqb 0 x (λ e. n (sym e))) (omega arith)
       by (no n) d = rw (ne_eqb r 0 n, ne_eqb (bit_or r x) 0 (either_bits r x n)) (omega arith)
@@ -76,10 +75,10 @@ module _ {m : ℕ} (h : IsField m) where
 
   module _ (t r x half : ℕ) {e : ℕ} (is : e ≡ product m x (inverse m r)) where
     -- the slot of the multiple that puts the place right
-    saves_here : (multiple_of half (e % 128) ≡ 0 → ⊥) → t * bool_byte (eqb (e / 128) half) ≡ saves (galois m) (multiple_of half (e % 128)) t r x
+    saves_here : (multiple_of half (e % 128) ≡ 0 → ⊥) → cond (eqb (e / 128) half) t 0 ≡ saves (galois m) (multiple_of half (e % 128)) t r x
     saves_here k = by (ℕ_discrete r 0) (ℕ_discrete (e / 128) half)
       where
-        by : Dec (r ≡ 0) → Dec (e / 128 ≡ half) → t * bool_byte (eqb (e / 128) half) ≡ saves (galois m) (multiple_of half (e % 128)) t r x
+        by : Dec (r ≡ 0) → Dec (e / 128 ≡ half) → cond (eqb (e / 128) half) t 0 ≡ saves (galois m) (multiple_of half (e % 128)) t r x
         by (yes z) d =
             let o : e ≡ 0 = is ∙ ap (λ y. product m x (inverse m y)) z ∙ over_zero x in
             rw (ne_eqb (e / 128) half (λ y. k (omega (arith, o, y)))) (omega (arith, saves_none (galois m) t r x (multiple_of half (e % 128)) z))
@@ -98,7 +97,7 @@ module _ {m : ℕ} (h : IsField m) where
 
     module _ (l : List ℕ) (s : length l ≡ 128) where
       abbrev v : ℕ
-      v = t * bool_byte (eqb (e / 128) half)
+      v = cond (eqb (e / 128) half) t 0
 
       abbrev new : List ℕ
       new = set l (e % 128) (get_or l (e % 128) 0 + v)
@@ -120,8 +119,8 @@ module _ {m : ℕ} (h : IsField m) where
           by (yes z) = rw z (omega (arith, put_here l (e % 128) v (omega (arith, s, k, z)), bit_le t (eqb (e / 128) half)))
           by (no z) = omega (arith, put_else l (e % 128) v i z)
 
-      pub saved_at : {j : ℕ} → j ≡ e % 128 → Saved m t r x half l (set l j (get_or l j 0 + t * bool_byte (eqb (e / 128) half)))
-      saved_at at = rw at (record { size = length-set l (e % 128) (get_or l (e % 128) 0 + v); more = more; most = most })
+      pub saved_at : {j v' : ℕ} → j ≡ e % 128 → v' ≡ v → Saved m t r x half l (set l j (get_or l j 0 + v'))
+      saved_at at is-v = rw (at, is-v) (record { size = length-set l (e % 128) (get_or l (e % 128) 0 + v); more = more; most = most })
 
 -- ---- the loop
 
@@ -152,9 +151,6 @@ module _ (m half log : ℕ) (ts rs late ds : List ℕ) where
       none j h = ap (λ l. get_or l j 0) z ∙ get_or-replicate {A = ℕ} 128 j 0 0 h
 
   module _ {i cost : ℕ} {slots : List ℕ} (g : Passing m half log ts rs late ds i cost slots) where
-    pub pass_room : i ≤ 288 → Room slots 73440
-    pass_room h j k = omega (arith, g.room j k)
-
     pub pass_end : length ts ≤ i → GatheredWith m half log ts rs late ds cost slots
     pass_end h d f =
         let e : drop i ts ≡ [] = drop_of_length-le ts h in
@@ -184,10 +180,11 @@ module _ (m half log : ℕ) (ts rs late ds : List ℕ) where
           nx = next xs 0 i (omega arith) ∙ ap (λ y. y ∷ drop (i + 1) xs) (sym at)
 
       pub pass_turn : {p c : ℕ} {new : List ℕ} → p ≡ product_by_log m log (get_or late i 0)
-          → c ≡ always (galois m) (get_or ts i 0) (get_or rs i 0) (bit_xor (get_or ds i 0) p)
+          → c ≡ cond (not (eqb (bit_or (get_or rs i 0) (bit_xor (get_or ds i 0) p)) 0)) (get_or ts i 0) 0
           → Saved m (get_or ts i 0) (get_or rs i 0) (bit_xor (get_or ds i 0) p) half slots new → Passing m half log ts rs late ds (i + 1) (cost + c) new
       unfolding ◌⊕◌
-      pass_turn {p} {c} {new} q e w =
+      pass_turn {p} {c} {new} q is_c w =
+          let e = is_c ∙ always_bit (galois m) (get_or ts i 0) (get_or rs i 0) (bit_xor (get_or ds i 0) p) in
           record {
             low = omega (arith, e, g.low, always_le (galois m) (get_or ts i 0) (get_or rs i 0) (bit_xor (get_or ds i 0) p));
             size = w.size ∙ g.size;

@@ -33,14 +33,12 @@ pub fn choose(
 {
     let mut cost = best.cost;
     let mut e = best.e;
-    let mut j = from;
-    while j < to {
+    for j in from..to {
         let c = fixed - slots[j];
         if c < cost {
             cost = c;
             e = multiple_of(half, j);
         }
-        j += 1;
     }
-    Multiple { cost: cost, e: e }
+    Multiple { cost, e }
 }

@@ -1,20 +1,17 @@
 // The cheapest multiple of a row: all of them in one pass over the places, or in two where there are more than 127.
 ghost use Rattle.std.specs.Prelude.{◌≡◌, ◌-◌, ◌<◌, min};
 ghost use Rattle.field.specs.Galois.{galois, size};
-ghost use Rattle.field.specs.Tables.{Tables};
 ghost use Rattle.elliptic.specs.Pair.{add_scaled};
 ghost use Rattle.patterns.specs.Cheapest.{cheapest};
 ghost use Rattle.tries.specs.Multiples.{Rows, InHalf, price_of, half_tries, best_multiple};
 
 use crate::choose::{Multiple, choose};
 use crate::gather::gather;
-use field::{logarithm, size};
+use field::Field;
 
 // The multiples of one half: those in slots from `from` to before `to`.
 fn try_half(
-    m: u8,
-    powers: &[u8; 1021],
-    logs: &[u16; 512],
+    field: &Field,
     trusts: &[u8],
     difference: &[u8],
     d: u8,
@@ -25,25 +22,20 @@ fn try_half(
     to: usize,
     best: Multiple,
 ) -> Multiple
-    requires tables { Tables m powers.now logs.now }
-    requires rows { Rows m trusts.now difference.now late.now row.now × (d < size m) × InHalf m half from to }
+    requires rows { Rows field.now.number trusts.now difference.now late.now row.now × (d < size field.now.number) × InHalf field.now.number half from to }
     ensures { (result.cost, result.e) ≡ cheapest price_of (best.cost, best.e)
-        (half_tries (galois m) trusts.now row.now (add_scaled (galois m) d late.now difference.now)
+        (half_tries (galois field.now.number) trusts.now row.now (add_scaled (galois field.now.number) d late.now difference.now)
         half from (to - from)) }
 {
-    let log = logarithm(m, logs, d);
+    let log = field.logarithm(d);
     let mut slots = [0u32; 128];
-    let fixed = gather(
-        m, powers, logs, trusts, difference, log, late, row, half, &mut slots,
-    );
+    let fixed = gather(field, trusts, difference, log, late, row, half, &mut slots);
     choose(fixed, &slots, half, from, to, best)
 }
 
 // The cheapest of the first `most` multiples of a row, added to the difference with d times the row `late`: its cost if that is below `cost`, or else 0.
 pub fn try_multiples(
-    m: u8,
-    powers: &[u8; 1021],
-    logs: &[u16; 512],
+    field: &Field,
     trusts: &[u8],
     difference: &[u8],
     d: u8,
@@ -52,19 +44,16 @@ pub fn try_multiples(
     most: usize,
     cost: u32,
 ) -> Multiple
-    requires tables { Tables m powers.now logs.now }
-    requires rows { Rows m trusts.now difference.now late.now row.now × (d < size m) }
-    ensures { (result.cost, result.e) ≡ best_multiple (galois m) trusts.now row.now
-        (add_scaled (galois m) d late.now difference.now) cost (min most (size m - 1)) }
+    requires rows { Rows field.now.number trusts.now difference.now late.now row.now × (d < size field.now.number) }
+    ensures { (result.cost, result.e) ≡ best_multiple (galois field.now.number) trusts.now row.now
+        (add_scaled (galois field.now.number) d late.now difference.now) cost (min most (size field.now.number - 1)) }
 {
-    let all = size(m) - 1;
-    let count = if most < all { most } else { all };
-    let none = Multiple { cost: cost, e: 0 };
+    let all = field.size() - 1;
+    let count = most.min(all);
+    let none = Multiple { cost, e: 0 };
     if count < 128 {
         return try_half(
-            m,
-            powers,
-            logs,
+            field,
             trusts,
             difference,
             d,
@@ -76,13 +65,9 @@ pub fn try_multiples(
             none,
         );
     }
-    let first = try_half(
-        m, powers, logs, trusts, difference, d, late, row, 0, 1, 128, none,
-    );
+    let first = try_half(field, trusts, difference, d, late, row, 0, 1, 128, none);
     try_half(
-        m,
-        powers,
-        logs,
+        field,
         trusts,
         difference,
         d,

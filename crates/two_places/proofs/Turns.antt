@@ -16,11 +16,16 @@ use Rattle.engine.specs.Arrays.{Ordered}
 use Rattle.values.specs.Values.{Swept, Steps, Passes, raised_at, gained_at}
 use Rattle.values.proofs.Steps.{steps, steps_passes, steps_round}
 use Rattle.two_places.specs.declared.turn.Factors.{Factors}
-use Rattle.two_places.specs.Turns.{low_between, high_between, raised_twice, gained_twice, Turns}
+use Rattle.two_places.specs.Turns.{low_between, high_between, raised_twice, gained_twice, IsFactors, Turns}
 
 -- the list of what a rule gives is as if it were swept
 swept_table : (rule : ℕ → ℕ) (e : ℕ) (old : List ℕ) {n : ℕ} → length old ≡ n → Swept rule e old (table rule n)
 swept_table rule e old {n} h = record { size = length_table rule n ∙ sym h; at = λ i a b. get_or_table rule n i 0 (omega arith) }
+
+-- what the tests of two steps at once say of the factors
+pub can_turn : {m : ℕ} {xs : List ℕ} {i : ℕ} {l u : List ℕ} {w : Factors} {q : Bool} → IsFactors m xs i l u w
+    → (q ≡ true) × (get_or l i 0 ≡ 0 → ⊥) × (w.next ≡ 0 → ⊥) → Turns m xs i l u w
+can_turn f t = record { are = f; some = t.1; next_some = t.2 }
 
 module _ {m : ℕ} (k : IsField m) {xs : List ℕ} {i : ℕ} (inside : i + 1 < length xs) {l u : List ℕ} (first : length l ≡ length xs) (second : length u ≡ length xs) {w : Factors}
     (turns : Turns m xs i l u w) where

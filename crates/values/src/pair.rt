@@ -1,11 +1,10 @@
 // L and U by their values, and what one more place makes of them.
 ghost use Rattle.std.specs.Prelude.{◌≡◌, cond, ◌<◌, length, ltb};
-ghost use Rattle.field.specs.Tables.{Tables};
 ghost use Rattle.values.specs.Values.{Steps, Passes, Fits};
 
 use crate::sweep::{gain_raise, raise};
 use engine::pair::{Sizes, grown, ordered};
-use field::quotient;
+use field::Field;
 
 // How many coefficients the sum of two functions has.
 pub fn longer(a: usize, b: usize) -> usize
@@ -16,9 +15,7 @@ pub fn longer(a: usize, b: usize) -> usize
 
 // One more place, with index j: L is in l and U in u. What stands before the index `from` is needed no more.
 pub fn pair_step(
-    m: u8,
-    powers: &[u8; 1021],
-    logs: &[u16; 512],
+    field: &Field,
     j: usize,
     from: usize,
     xs: &[u8],
@@ -26,22 +23,21 @@ pub fn pair_step(
     u: &mut [u8],
     n: Sizes,
 ) -> Sizes
-    requires tables { Tables m powers.now logs.now }
     requires j_in_bounds { (j < length xs.now) × Fits xs.now l.old u.old n }
-    ensures { Steps m xs.now j from l.old u.old n.low n.high l.new u.new result
-        × Passes m xs.now j from l.old u.old l.new u.new }
+    ensures { Steps field.now.number xs.now j from l.old u.old n.low n.high l.new u.new result
+        × Passes field.now.number xs.now j from l.old u.old l.new u.new }
 {
     let alpha = xs[j];
     let at = l[j];
     if at == 0 {
-        raise(m, powers, logs, alpha, from, xs, u);
+        raise(field, alpha, from, xs, u);
         return Sizes {
             low: n.low,
             high: grown(n.high),
             turned: false,
         };
     }
-    let t = quotient(m, powers, logs, u[j], at);
-    gain_raise(m, powers, logs, alpha, t, from, xs, l, u);
+    let t = field.quotient(u[j], at);
+    gain_raise(field, alpha, t, from, xs, l, u);
     ordered(grown(n.low), longer(n.low, n.high))
 }

@@ -1,18 +1,15 @@
 // L, U and the interpolant F by their values, and what one more place makes of them.
 ghost use Rattle.std.specs.Prelude.{◌≡◌, cond, ◌<◌, length};
-ghost use Rattle.field.specs.Tables.{Tables};
 ghost use Rattle.values.specs.Values.{WordSteps, Fits};
 
 use crate::pair::longer;
 use crate::sweep::{gain_both_raise, gain_raise};
 use engine::pair::{Sizes, grown, ordered, swapped};
-use field::quotient;
+use field::Field;
 
 // One more place, with index j, where F is to be v: L is in l and U in u. What stands before the index `from` is needed no more.
 pub fn word_step(
-    m: u8,
-    powers: &[u8; 1021],
-    logs: &[u16; 512],
+    field: &Field,
     j: usize,
     from: usize,
     v: u8,
@@ -22,33 +19,30 @@ pub fn word_step(
     f: &mut [u8],
     n: Sizes,
 ) -> Sizes
-    requires tables { Tables m powers.now logs.now }
     requires j_in_bounds { (j < length xs.now) × Fits xs.now l.old u.old n × (length f.old ≡ length xs.now) }
-    ensures { WordSteps m xs.now j from v l.old u.old f.old n.low n.high l.new u.new f.new result }
+    ensures { WordSteps field.now.number xs.now j from v l.old u.old f.old n.low n.high l.new u.new f.new result }
 {
     let alpha = xs[j];
     let missing = v ^ f[j];
     let at = l[j];
     if at == 0 {
-        let e = quotient(m, powers, logs, missing, u[j]);
-        gain_raise(m, powers, logs, alpha, e, from, xs, u, f);
+        let e = field.quotient(missing, u[j]);
+        gain_raise(field, alpha, e, from, xs, u, f);
         return Sizes {
             low: n.low,
             high: grown(n.high),
             turned: false,
         };
     }
-    let t = quotient(m, powers, logs, u[j], at);
-    let e = quotient(m, powers, logs, missing, at);
-    gain_both_raise(m, powers, logs, alpha, t, e, from, xs, l, u, f);
+    let t = field.quotient(u[j], at);
+    let e = field.quotient(missing, at);
+    gain_both_raise(field, alpha, t, e, from, xs, l, u, f);
     ordered(grown(n.low), longer(n.low, n.high))
 }
 
 // The same, with L and U in either array.
 pub fn word_turn(
-    m: u8,
-    powers: &[u8; 1021],
-    logs: &[u16; 512],
+    field: &Field,
     j: usize,
     from: usize,
     v: u8,
@@ -58,14 +52,13 @@ pub fn word_turn(
     f: &mut [u8],
     n: Sizes,
 ) -> Sizes
-    requires tables { Tables m powers.now logs.now }
     requires j_in_bounds { (j < length xs.now) × Fits xs.now l.old u.old n × (length f.old ≡ length xs.now) }
-    ensures { WordSteps m xs.now j from v (cond n.turned u.old l.old) (cond n.turned l.old u.old) f.old n.low n.high
+    ensures { WordSteps field.now.number xs.now j from v (cond n.turned u.old l.old) (cond n.turned l.old u.old) f.old n.low n.high
         l.new u.new f.new result }
 {
     let turned = n.turned;
     if turned {
-        return swapped(word_step(m, powers, logs, j, from, v, xs, u, l, f, n));
+        return swapped(word_step(field, j, from, v, xs, u, l, f, n));
     }
-    word_step(m, powers, logs, j, from, v, xs, l, u, f, n)
+    word_step(field, j, from, v, xs, l, u, f, n)
 }

@@ -3,13 +3,7 @@ use mathlib.Core.Path.{◌∙◌}
 use mir.Syntax.{w32}
 use mir.ValLaws.{to_z-of_z}
 use Rattle.basics.proofs.Outcomes.{report}
-use Rattle.codewords.specs.Code.{code_of}
-use Rattle.abi.proofs.Counts.{pick_counts}
 use Rattle.abi.proofs.vakhudle_pick.Goals as goal
-
-pub status-requires : goal.status-requires
-status-requires c =
-    rw c.pick.ensures.answers (pick_counts (code_of c.parameters-parts.result _ _) c.args.ranked.now c.args.out.now c.args.work.now)
 
 pub returns : goal.returns
 returns c =

@@ -1,16 +1,10 @@
 -- The operation's answer as a number.
 use mathlib.Core.Path.{◌∙◌}
 use mir.Syntax.{w16, w32}
-use mir.Val.{to_z, of_z}
 use mir.ValLaws.{to_z-of_z}
 use Rattle.basics.proofs.Outcomes.{report}
 use Rattle.rolling.specs.Bytes.{rolling_outcome}
-use Rattle.abi.proofs.Counts.{rolling_counts}
 use Rattle.abi.proofs.vakhudle_rolling.Goals as goal
-
-pub status-requires : goal.status-requires
-status-requires c =
-    rw c.rolling.ensures.answers (rolling_counts c.args.state.now c.args.hour (to_z w16 (of_z w16 c.args.mean)) c.args.out.now)
 
 pub returns : goal.returns
 returns c =

@@ -3,12 +3,7 @@ use mathlib.Core.Path.{◌∙◌}
 use mir.Syntax.{w32}
 use mir.ValLaws.{to_z-of_z}
 use Rattle.basics.proofs.Outcomes.{report}
-use Rattle.abi.proofs.Counts.{fresh_counts}
 use Rattle.abi.proofs.vakhudle_rolling_fresh.Goals as goal
-
-pub status-requires : goal.status-requires
-status-requires c =
-    rw c.rolling_fresh.ensures.answers (fresh_counts c.args.out.now)
 
 pub returns : goal.returns
 returns c = report c.rolling_fresh.ensures (to_z-of_z w32 c.status.result (record { sfits = c.status.type_inv }) ∙ c.status.ensures)

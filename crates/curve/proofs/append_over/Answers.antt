@@ -4,8 +4,4 @@ use Rattle.curve.proofs.append_over.Goals as goal
 
 pub returns-then-y-eq0 : goal.returns-then-y-eq0
 returns-then-y-eq0 c =
-    rw (c.requires.1.no_point c.trace-t.ensures c.if-t-eq0.false c.if-y-eq0.true) (appends_none _ _ _)
-
-pub returns : goal.returns
-returns c =
-    rw (c.requires.1.two_points c.trace-t.ensures c.if-t-eq0.false c.if-y-eq0.false) c.append_pair.ensures
+    rw (c.requires.0.no_point c.trace-t.ensures c.if-t-eq0.false c.if-y-eq0.true) (appends_none _ _ _)

@@ -1,53 +1,12 @@
--- Coefficient after coefficient.
-use mathlib.Core.Path.{◌≡◌}
-use mathlib.Core.Bool.{true, and-true}
-use native.Mathlib.Omega.{arith}
-use borrow.Author.Tests.{lt-ltb, le-ltb}
+-- The call's result is the test of each coefficient in turn.
+use Rattle.std.proofs.Common.{rules, tests}
 use lib.Dec.{ltb}
+use Rattle.std.proofs.lemmas.Iterator.{YieldsList-from_slice}
+use Rattle.std.proofs.lemmas.Iterator.Search.{all_from_yields_List}
 use Rattle.field.specs.Galois.{size}
+use Rattle.elliptic.specs.Curve.{coefficients_of}
 use Rattle.curve.proofs.coefficients_below.Goals as goal
 
-pub returns-then-q-wide : goal.returns-then-q-wide
-returns-then-q-wide c = simp (le-ltb c.args.c.g1 (size c.args.m) (omega arith))
-
-passed_1 : (c : goal.Then-q-wide-2) → ltb c.args.c.g1 (size c.args.m) ≡ true
-passed_1 c = lt-ltb c.args.c.g1 (size c.args.m) (omega arith)
-
-pub returns-then-q-wide-2 : goal.returns-then-q-wide-2
-returns-then-q-wide-2 c = simp (passed_1 c, le-ltb c.args.c.g2 (size c.args.m) (omega arith))
-
-passed_1_2 : (c : goal.Then-q-wide-3) → ltb c.args.c.g1 (size c.args.m) ≡ true
-passed_1_2 c = lt-ltb c.args.c.g1 (size c.args.m) (omega arith)
-
-passed_2 : (c : goal.Then-q-wide-3) → ltb c.args.c.g2 (size c.args.m) ≡ true
-passed_2 c = lt-ltb c.args.c.g2 (size c.args.m) (omega arith)
-
-pub returns-then-q-wide-3 : goal.returns-then-q-wide-3
-returns-then-q-wide-3 c = simp (passed_1_2 c, passed_2 c, le-ltb c.args.c.g3 (size c.args.m) (omega arith))
-
-passed_1_3 : (c : goal.Then-q-wide-4) → ltb c.args.c.g1 (size c.args.m) ≡ true
-passed_1_3 c = lt-ltb c.args.c.g1 (size c.args.m) (omega arith)
-
-passed_2_2 : (c : goal.Then-q-wide-4) → ltb c.args.c.g2 (size c.args.m) ≡ true
-passed_2_2 c = lt-ltb c.args.c.g2 (size c.args.m) (omega arith)
-
-passed_3 : (c : goal.Then-q-wide-4) → ltb c.args.c.g3 (size c.args.m) ≡ true
-passed_3 c = lt-ltb c.args.c.g3 (size c.args.m) (omega arith)
-
-pub returns-then-q-wide-4 : goal.returns-then-q-wide-4
-returns-then-q-wide-4 c = simp (passed_1_3 c, passed_2_2 c, passed_3 c, le-ltb c.args.c.g4 (size c.args.m) (omega arith))
-
-passed_1_4 : (c : goal.After-wide-5) → ltb c.args.c.g1 (size c.args.m) ≡ true
-passed_1_4 c = lt-ltb c.args.c.g1 (size c.args.m) (omega arith)
-
-passed_2_3 : (c : goal.After-wide-5) → ltb c.args.c.g2 (size c.args.m) ≡ true
-passed_2_3 c = lt-ltb c.args.c.g2 (size c.args.m) (omega arith)
-
-passed_3_2 : (c : goal.After-wide-5) → ltb c.args.c.g3 (size c.args.m) ≡ true
-passed_3_2 c = lt-ltb c.args.c.g3 (size c.args.m) (omega arith)
-
-passed_4 : (c : goal.After-wide-5) → ltb c.args.c.g4 (size c.args.m) ≡ true
-passed_4 c = lt-ltb c.args.c.g4 (size c.args.m) (omega arith)
-
 pub returns : goal.returns
-returns c = simp (passed_1_4 c, passed_2_3 c, passed_3_2 c, passed_4 c, c.wide-5.ensures, c.size-q.ensures, and-true)
+returns c =
+    all_from_yields_List (λ g. ltb g (size c.args.field.now.number)) _ _ _ c.all.ensures.ran (YieldsList-from_slice (coefficients_of c.args.c) cc) (λ x b q k. search (rules, tests))

@@ -4,4 +4,4 @@ use Rattle.curve.proofs.find_y.Goals as goal
 
 pub returns : goal.returns
 returns c =
-    found c.requires.0.field c.args.c c.requires.2 c.args.x c.requires.1 c.trace-t.ensures c.right-v.ensures c.root.ensures c.product.ensures
+    found c.args.field.now.tables.field c.args.c c.requires.1 c.args.x c.requires.0 c.trace-t.ensures c.right-v.ensures c.root.ensures c.product.ensures

@@ -6,4 +6,4 @@ use Rattle.curve.proofs.on_curve.Goals as goal
 pub returns : goal.returns
 returns c =
     rw (c.solves.ensures, c.right-v.ensures, c.trace-t.ensures)
-    (on_product (galois_field c.requires.field) c.args.c c.args.p.x c.args.p.y)
+    (on_product (galois_field c.args.field.now.tables.field) c.args.c c.args.p.x c.args.p.y)

@@ -6,4 +6,4 @@ use Rattle.field.proofs.modulus.Goals as goal
 
 pub returns : goal.returns
 unfolding modulus rows numbers_test all_below
-returns c = by_number modulus (_ ∷ _ ∷ _ ∷ _ ∷ _ ∷ _ ∷ _ ∷ _ ∷ _ ∷ _ ∷ []) tt c.wide.ensures c.requires
+returns c = by_number modulus (_ ∷ _ ∷ _ ∷ _ ∷ _ ∷ _ ∷ _ ∷ _ ∷ _ ∷ _ ∷ []) tt c.from.ensures c.requires

@@ -13,4 +13,4 @@ overflow_sub-result c = omega (arith, c.requires c.if-l-eq-NO_BYTE.false)
 
 pub returns : goal.returns
 unfolding negated
-returns c = rw (ne_eqb c.args.l no_byte c.if-l-eq-NO_BYTE.false)
+returns c = rw (c.from.ensures, ne_eqb c.args.l no_byte c.if-l-eq-NO_BYTE.false)

@@ -1,5 +1,5 @@
 -- The loop makes the logarithm of an inverse of each byte of the row.
-use Prim.Native.Nat.{◌≤◌, ◌-◌}
+use Prim.Native.Nat.{◌≤◌}
 use mathlib.Core.Path.{◌≡◌}
 use lib.Seq.{paste}
 use Rattle.field.specs.Tables.{neg_log_table}
@@ -7,6 +7,3 @@ use Rattle.field.proofs.put_neg_logs.Given as goal
 
 abbrev pub invariant-loop-i : goal.invariant-loop-i
 invariant-loop-i l = (l.i ≤ 256) × (l.out ≡ paste l.initial.out 256 (neg_log_table l.m) l.i)
-
-abbrev pub decreases-loop-i : goal.decreases-loop-i
-decreases-loop-i l = 256 - l.i

@@ -9,4 +9,4 @@ returns-then-l-eq-NO_BYTE c = rw (eq-eqb c.args.l no_byte c.if-l-eq-NO_BYTE.true
 
 pub returns-else-l-eq-NO_BYTE : goal.returns-else-l-eq-NO_BYTE
 unfolding widened
-returns-else-l-eq-NO_BYTE c = rw (ne_eqb c.args.l no_byte c.if-l-eq-NO_BYTE.false)
+returns-else-l-eq-NO_BYTE c = rw (c.from.ensures, ne_eqb c.args.l no_byte c.if-l-eq-NO_BYTE.false)

@@ -6,4 +6,4 @@ use Rattle.field.proofs.width.Goals as goal
 
 pub returns : goal.returns
 unfolding width rows numbers_test all_below
-returns c = by_number width (_ ∷ _ ∷ _ ∷ _ ∷ _ ∷ _ ∷ _ ∷ _ ∷ _ ∷ _ ∷ []) tt c.wide.ensures c.requires
+returns c = by_number width (_ ∷ _ ∷ _ ∷ _ ∷ _ ∷ _ ∷ _ ∷ _ ∷ _ ∷ _ ∷ []) tt c.from.ensures c.requires

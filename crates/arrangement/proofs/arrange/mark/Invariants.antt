@@ -1,5 +1,4 @@
 -- The loop's invariant: the first j places are marked.
-use Prim.Native.Nat.{◌≤◌, ◌-◌}
 use mathlib.Core.Path.{◌≡◌}
 use lib.ListN.{length, take}
 use Rattle.basics.specs.Lists.{table}
@@ -7,7 +6,4 @@ use Rattle.arrangement.specs.Arranged.{free_at}
 use Rattle.arrangement.proofs.arrange.mark.Given as goal
 
 abbrev pub invariant-loop-j : goal.invariant-loop-j
-invariant-loop-j l = (l.j ≤ length l.places) × (length l.free ≡ length l.initial.free) × (l.free ≡ table (free_at (take l.j l.places)) (length l.initial.free))
-
-abbrev pub decreases-loop-j : goal.decreases-loop-j
-decreases-loop-j l = length l.places - l.j
+invariant-loop-j l = l.free ≡ table (free_at (take l.j l.places)) (length l.initial.free)

@@ -1,54 +1,18 @@
--- The field number, the tables, the code test by them, and then the operation of a code that passed it.
-use mathlib.Core.Path.{◌≡◌, sym, ◌∙◌}
-use Rattle.basics.specs.declared.Answer.TheVariants.{Done}
-use Rattle.basics.proofs.Outcomes.{refuse}
-use Rattle.field.specs.Galois.{IsField}
-use Rattle.field.specs.Tables.{Tables}
-use Rattle.codewords.specs.Code.{code_of, code_answer}
-use Rattle.code.proofs.Tested.{field_number, go_on, stop}
+-- The code, and then the operation.
+use Rattle.basics.proofs.Outcomes.{exit}
+use Rattle.code.proofs.Opened.{no_field, no_code, opened}
+use Rattle.best.specs.Stages.{best_tested}
 use Rattle.best.proofs.operation.best.Goals as goal
 
-pub returns-then-not-is_field : goal.returns-then-not-is_field
-returns-then-not-is_field c = refuse _ (sym c.is_field.ensures ∙ c.if-not-is_field.true)
+pub returns-in_err-field : goal.returns-in_err-field
+returns-in_err-field c = exit _ _ c.from_residual.ensures.1 (no_field c.args.code _ _ _ c.in_err-field.ensures.refused)
 
-is_field_lem : (c : goal.Else-not-is_field) → IsField c.args.code.field
-is_field_lem c = field_number c.is_field.ensures c.if-not-is_field.false
-
-pub powers-powers-requires : goal.powers-powers-requires
-powers-powers-requires c = is_field_lem c
-
-is_field_lem_2 : (c : goal.After-powers-powers) → IsField c.args.code.field
-is_field_lem_2 c = field_number c.is_field.ensures c.if-not-is_field.false
-
-pub logarithms-logs-requires : goal.logarithms-logs-requires
-logarithms-logs-requires c = is_field_lem_2 c
-
-is_field_lem_3 : (c : goal.After-logs-1) → IsField c.args.code.field
-is_field_lem_3 c = field_number c.is_field.ensures c.if-not-is_field.false
-
-tables : (c : goal.After-logs-1) → Tables c.args.code.field c.powers-powers.result c.logarithms-logs.result
-tables c = record { field = is_field_lem_3 c; is_powers = c.powers-powers.ensures; is_logs = c.logarithms-logs.ensures }
-
-pub test_code_with-tested-requires : goal.test_code_with-tested-requires
-test_code_with-tested-requires c = tables c
-
-is_field_lem_4 : (c : goal.After-best_tested-arg-in-Done-2-1) → IsField c.args.code.field
-is_field_lem_4 c = field_number c.is_field.ensures c.if-not-is_field.false
-
-tables_2 : (c : goal.After-best_tested-arg-in-Done-2-1) → Tables c.args.code.field c.powers-powers.result c.logarithms-logs.result
-tables_2 c = record { field = is_field_lem_4 c; is_powers = c.powers-powers.ensures; is_logs = c.logarithms-logs.ensures }
-
-passed : (c : goal.After-best_tested-arg-in-Done-2-1) → code_answer (code_of c.args.code c.args.xs.now c.args.ys.now) ≡ Done
-passed c = sym c.test_code_with-tested.ensures ∙ c.in-Done.is
-
-pub best_tested-requires : goal.best_tested-requires
-best_tested-requires c = record { tables = tables_2 c; ys_value = passed c }
-
-passed_2 : (c : goal.After-slice_known-in-Done-3-1) → code_answer (code_of c.args.code c.args.xs.now c.args.ys.now) ≡ Done
-passed_2 c = sym c.test_code_with-tested.ensures ∙ c.in-Done.is
-
-pub returns-in-Done : goal.returns-in-Done
-returns-in-Done c = go_on _ _ (passed_2 c) c.best_tested.ensures
+pub returns-in_err-accepted : goal.returns-in_err-accepted
+returns-in_err-accepted c =
+    exit _ _ c.from_residual-in_err-accepted.ensures.1 (no_code c.args.code _ _ c.in_ok-field.ensures.field _ c.in_err-accepted.ensures.refused)
 
 pub returns : goal.returns
-returns c = stop _ _ c.test_code_with-tested.ensures c.in_default.not-Done
+returns c =
+    opened c.args.code _ _ c.in_ok-field.ensures.field
+    (λ code. best_tested code c.args.received.now c.args.trusts.now c.args.budget c.args.out.now c.args.figures.now c.args.work.now)
+    c.in_ok-accepted.accepted c.in_ok-accepted.ensures.accepted c.best_tested.ensures

@@ -25,10 +25,6 @@ returns-then-work-lt-ROOM c =
     (pass _ (eq-eqb _ _ c.if-trusts-n.false)
     (pass _ (eq-eqb _ _ c.if-out-n.false) (pass _ (eq-eqb _ _ c.if-figures-ne3.false) (refuse _ (lt-leb room _ c.if-work-lt-ROOM.true)))))
 
-pub best_sized-requires : goal.best_sized-requires
-best_sized-requires c =
-    record { tables = c.requires.tables; ys_value = c.requires.ys_value; received_len = (c.if-received-n.false, c.if-trusts-n.false, c.if-out-n.false, c.if-figures-ne3.false, c.if-work-lt-ROOM.false) }
-
 pub returns : goal.returns
 returns c =
     pass _ (eq-eqb _ _ c.if-received-n.false)

@@ -7,27 +7,12 @@ use Rattle.best.proofs.write.write_word.Goals as goal
 pub picked_row-requires : goal.picked_row-requires
 picked_row-requires c =
     let (prepared, found, long, out-long) = c.requires.prepared in
-    record { tables = c.requires.tables; works = (given_works prepared.given, prepared.summed, long, found.late_in) }
+    record { works = (given_works prepared.given, prepared.summed, long, found.late_in) }
 
 pub picked_row-requires-2 : goal.picked_row-requires-2
 picked_row-requires-2 c =
     let (prepared, found, long, out-long) = c.requires.prepared in
-    record { tables = c.requires.tables; works = (given_works prepared.given, prepared.summed, omega (arith, c.picked_row.auto.out, long), found.early_in) }
-
-pub add_scaled-requires-2 : goal.add_scaled-requires-2
-add_scaled-requires-2 c =
-    let (prepared, found, long, out-long) = c.requires.prepared in record {
-      tables = c.requires.tables;
-      h_in_bounds = omega (
-        arith,
-        long,
-        out-long,
-        c.apply.auto.out,
-        c.picked_row.auto.out,
-        c.add_scaled.auto.f,
-        c.picked_row-2.auto.out,
-      );
-    }
+    record { works = (given_works prepared.given, prepared.summed, omega (arith, c.picked_row.auto.out, long), found.early_in) }
 
 pub returns : goal.returns
 returns c =

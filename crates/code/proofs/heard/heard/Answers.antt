@@ -1,40 +1,22 @@
--- The field number, the tables, the code test by them, and then the operation of a code that passed it.
-use mathlib.Core.Path.{sym, ◌∙◌}
-use Rattle.basics.proofs.Outcomes.{refuse}
-use Rattle.field.specs.Galois.{IsField}
-use Rattle.field.specs.Tables.{Tables}
-use Rattle.code.proofs.Tested.{field_number, points_most, go_on, stop}
+-- The code, and then the operation.
+use Rattle.basics.proofs.Outcomes.{exit}
+use Rattle.codewords.specs.Code.{n}
+use Rattle.codewords.proofs.Accepted.{accepted_done}
+use Rattle.code.specs.Heard.{heard_tested}
+use Rattle.code.proofs.Opened.{no_field, no_code, opened}
 use Rattle.code.proofs.heard.heard.Goals as goal
 
-pub returns-then-not-is_field : goal.returns-then-not-is_field
-returns-then-not-is_field c = refuse _ (sym c.is_field.ensures ∙ c.if-not-is_field.true)
+pub returns-in_err-field : goal.returns-in_err-field
+returns-in_err-field c = exit _ _ c.from_residual.ensures.1 (no_field c.args.code _ _ _ c.in_err-field.ensures.refused)
 
-is_field_lem : (c : goal.Else-not-is_field) → IsField c.args.code.field
-is_field_lem c = field_number c.is_field.ensures c.if-not-is_field.false
-
-pub powers-powers-requires : goal.powers-powers-requires
-powers-powers-requires c = is_field_lem c
-
-is_field_lem_2 : (c : goal.After-powers-powers) → IsField c.args.code.field
-is_field_lem_2 c = field_number c.is_field.ensures c.if-not-is_field.false
-
-pub logarithms-logs-requires : goal.logarithms-logs-requires
-logarithms-logs-requires c = is_field_lem_2 c
-
-is_field_lem_3 : (c : goal.After-logs-1) → IsField c.args.code.field
-is_field_lem_3 c = field_number c.is_field.ensures c.if-not-is_field.false
-
-tables : (c : goal.After-logs-1) → Tables c.args.code.field c.powers-powers.result c.logarithms-logs.result
-tables c = record { field = is_field_lem_3 c; is_powers = c.powers-powers.ensures; is_logs = c.logarithms-logs.ensures }
-
-pub test_code_with-tested-requires : goal.test_code_with-tested-requires
-test_code_with-tested-requires c = tables c
+pub returns-in_err-accepted : goal.returns-in_err-accepted
+returns-in_err-accepted c =
+    exit _ _ c.from_residual-in_err-accepted.ensures.1 (no_code c.args.code _ _ c.in_ok-field.ensures.field _ c.in_err-accepted.ensures.refused)
 
 pub heard_tested-requires : goal.heard_tested-requires
-heard_tested-requires c = points_most _ (sym c.test_code_with-tested.ensures ∙ c.in-Done.is)
-
-pub returns-in-Done : goal.returns-in-Done
-returns-in-Done c = go_on _ _ (sym c.test_code_with-tested.ensures ∙ c.in-Done.is) c.heard_tested.ensures
+heard_tested-requires c = (accepted_done _ c.in_ok-accepted.accepted.accepted).n_most
 
 pub returns : goal.returns
-returns c = stop _ _ c.test_code_with-tested.ensures c.in_default.not-Done
+returns c =
+    opened c.args.code _ _ c.in_ok-field.ensures.field (λ code. heard_tested (n code) c.args.mask.now c.args.out.now) c.in_ok-accepted.accepted
+    c.in_ok-accepted.ensures.accepted c.heard_tested.ensures

@@ -8,6 +8,3 @@ use Rattle.code.proofs.heard.none_past.Given as goal
 
 abbrev pub invariant-loop-w : goal.invariant-loop-w
 invariant-loop-w l = (silent (heard_at l.mask) l.n (64 * l.w + l.from - l.n) ≡ true) × (l.n ≤ 64 * l.w + l.from) × (64 * l.w + l.from ≤ 320) × (l.from < 64)
-
-abbrev pub decreases-loop-w : goal.decreases-loop-w
-decreases-loop-w l = 5 - l.w

@@ -1,14 +1,9 @@
 -- The loop's invariant: the flag is the test of the symbols so far.
-use Prim.Native.Nat.{◌≤◌, ◌-◌}
 use mathlib.Core.Path.{◌≡◌}
-use lib.ListN.{length}
 use Rattle.basics.specs.Lists.{all, table}
 use Rattle.code.specs.Lists.{is_below}
 use Rattle.code.proofs.Marking.{element}
 use Rattle.code.proofs.lists.all_below.Given as goal
 
-abbrev pub invariant-loop-i : goal.invariant-loop-i
-invariant-loop-i l = (l.i ≤ length l.symbols) × (l.right ≡ all (is_below l.q) (table (element l.symbols) l.i))
-
-abbrev pub decreases-loop-i : goal.decreases-loop-i
-decreases-loop-i l = length l.symbols - l.i
+abbrev pub invariant-loop-symbol : goal.invariant-loop-symbol
+invariant-loop-symbol l = l.right ≡ all (is_below l.q) (table (element l.symbols) l.symbol-index)

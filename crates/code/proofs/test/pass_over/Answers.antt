@@ -15,16 +15,10 @@ use Rattle.code.proofs.Repeats.{points_table}
 use Rattle.code.proofs.test.pass_over.Goals as goal
 
 pub loop-i-init : goal.loop-i-init
-loop-i-init c = (omega arith, refl, bits_none c.args.m, refl, marked_none _ _ c.requires.xs_len.1)
+loop-i-init c = (omega arith, refl, bits_none c.args.field.now.number, refl, marked_none _ _ c.requires.xs_len.1)
 
 pub bounds-ys-i : goal.bounds-ys-i
 bounds-ys-i c = omega (arith, c.requires.xs_len.0)
-
-pub on_curve-on-requires : goal.on_curve-on-requires
-on_curve-on-requires c = c.requires.tables
-
-pub slot-s-requires : goal.slot-s-requires
-slot-s-requires c = c.requires.tables
 
 inside : (c : goal.After-slice_known-in-loop-i-1-unread) → c.slot-s.result < length c.loop-i.seen
 inside c = omega (arith, c.slot-s.ensures.1, c.loop-i.invariant.4.size)
@@ -43,13 +37,10 @@ loop-i-preserved c =
     let points = listed c.args.xs.now c.args.ys.now in (
       omega arith,
       simp length-set c.loop-i.invariant.1,
-      bits_next c.args.m c.loop-i.bits (points c.loop-i.i) c.loop-i.invariant.2 ∙ all_next (in_field (galois c.args.m)) points c.loop-i.i,
-      ap₂ ◌&&◌ c.loop-i.invariant.3 c.on_curve-on.ensures ∙ all_next (on_curve (galois c.args.m) c.args.c) points c.loop-i.i,
-      rw c.slot-s.ensures.0 (marked_next (slot_at (galois c.args.m) c.args.c c.args.xs.now c.args.ys.now) _ c.loop-i.i c.loop-i.invariant.4 (omega (arith, c.slot-s.ensures.0, c.slot-s.ensures.1))),
+      bits_next c.args.field.now.number c.loop-i.bits (points c.loop-i.i) c.loop-i.invariant.2 ∙ all_next (in_field (galois c.args.field.now.number)) points c.loop-i.i,
+      ap₂ ◌&&◌ c.loop-i.invariant.3 c.on_curve-on.ensures ∙ all_next (on_curve (galois c.args.field.now.number) c.args.c) points c.loop-i.i,
+      rw c.slot-s.ensures.0 (marked_next (slot_at (galois c.args.field.now.number) c.args.c c.args.xs.now c.args.ys.now) _ c.loop-i.i c.loop-i.invariant.4 (omega (arith, c.slot-s.ensures.0, c.slot-s.ensures.1))),
     )
-
-pub size-requires : goal.size-requires
-size-requires c = c.requires.tables.field
 
 pub shape_of-seen : goal.shape_of-seen
 shape_of-seen c = c.loop-i.invariant.1
@@ -57,13 +48,13 @@ shape_of-seen c = c.loop-i.invariant.1
 pub returns : goal.returns
 returns c =
     let points = listed c.args.xs.now c.args.ys.now in
-    let inside = in_field (galois c.args.m) in
-    let on = on_curve (galois c.args.m) c.args.c in
-    let good = is_point (galois c.args.m) c.args.c in
+    let inside = in_field (galois c.args.field.now.number) in
+    let on = on_curve (galois c.args.field.now.number) c.args.c in
+    let good = is_point (galois c.args.field.now.number) c.args.c in
     let e : c.loop-i.i ≡ length c.args.xs.now = omega arith in
     record {
       points =
-          ap₂ ◌&&◌ (ap₂ ltb c.wide.ensures c.size.ensures ∙ c.loop-i.invariant.2) c.loop-i.invariant.3 ∙ sym (all_both inside on (table points c.loop-i.i))
+          ap₂ ◌&&◌ (ap₂ ltb c.from.ensures c.size.ensures ∙ c.loop-i.invariant.2) c.loop-i.invariant.3 ∙ sym (all_both inside on (table points c.loop-i.i))
           ∙ ap (λ (k : ℕ). all good (table points k)) e ∙ ap (all good) (sym (points_table c.args.xs.now c.args.ys.now c.requires.xs_len.0));
-      slots = c.loop-i.invariant.4.apart ∙ ap (λ (k : ℕ). different eqb (table (slot_at (galois c.args.m) c.args.c c.args.xs.now c.args.ys.now) k)) e;
+      slots = c.loop-i.invariant.4.apart ∙ ap (λ (k : ℕ). different eqb (table (slot_at (galois c.args.field.now.number) c.args.c c.args.xs.now c.args.ys.now) k)) e;
     }

@@ -13,18 +13,10 @@ bit : (b : Bool) → (bool_byte b ≡ cond b 1 0) × (bool_byte b ≤ 1)
 bit true = (refl, omega arith)
 bit false = (refl, omega arith)
 
-greater : (c : goal.After-struct_known-2-1)
-    →
-    let b = ltb c.opposite-other.result.y c.args.p.y in
-    (bool_byte b ≡ cond b 1 0) × (bool_byte b ≤ 1)
-greater c = bit (ltb c.opposite-other.result.y c.args.p.y)
-
-pub overflow_add-result : goal.overflow_add-result
-overflow_add-result c = omega (arith, (greater c).1, c.wide-twice.ensures)
-
 pub returns : goal.returns
 unfolding slot
-returns c = (
-  ap₂ (λ a b. a * 2 + b) c.wide-twice.ensures ((greater c).0 ∙ ap (λ (z : ℕ). cond (ltb z c.args.p.y) 1 0) (ap (λ (Q : Point). Q.y) c.opposite-other.ensures)),
-  omega (arith, c.wide-twice.ensures, (greater c).1),
-)
+returns c =
+    let greater = bit (ltb c.opposite-other.result.y c.args.p.y) in (
+      ap₂ (λ a b. a * 2 + b) c.from-twice.ensures (c.from.ensures ∙ greater.0 ∙ ap (λ (z : ℕ). cond (ltb z c.args.p.y) 1 0) (ap (λ (Q : Point). Q.y) c.opposite-other.ensures)),
+      omega (arith, c.from-twice.ensures, c.from.ensures, greater.1),
+    )

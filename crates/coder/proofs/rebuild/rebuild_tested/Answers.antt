@@ -7,26 +7,26 @@ use Rattle.codewords.proofs.Accepted.{accepted_done}
 use Rattle.solving.specs.Tests.{room}
 use Rattle.coder.proofs.rebuild.rebuild_tested.Goals as goal
 
-pub returns-then-xs-places : goal.returns-then-xs-places
-returns-then-xs-places c = refuse _ (lt-leb _ _ c.if-xs-places.true)
+pub returns-then-code-places : goal.returns-then-code-places
+returns-then-code-places c = refuse _ (lt-leb _ _ c.if-code-places.true)
 
 pub returns-then-symbols-places : goal.returns-then-symbols-places
-returns-then-symbols-places c = pass _ (le-leb _ _ c.if-xs-places.false) (refuse _ (ne_eqb _ _ c.if-symbols-places.true))
+returns-then-symbols-places c = pass _ (le-leb _ _ c.if-code-places.false) (refuse _ (ne_eqb _ _ c.if-symbols-places.true))
 
-pub returns-then-out-xs : goal.returns-then-out-xs
-returns-then-out-xs c = pass _ (le-leb _ _ c.if-xs-places.false) (pass _ (eq-eqb _ _ c.if-symbols-places.false) (refuse _ (ne_eqb _ _ c.if-out-xs.true)))
+pub returns-then-out-code : goal.returns-then-out-code
+returns-then-out-code c = pass _ (le-leb _ _ c.if-code-places.false) (pass _ (eq-eqb _ _ c.if-symbols-places.false) (refuse _ (ne_eqb _ _ c.if-out-code.true)))
 
 pub returns-then-work-lt-ROOM : goal.returns-then-work-lt-ROOM
-returns-then-work-lt-ROOM c = pass _ (le-leb _ _ c.if-xs-places.false) (pass _ (eq-eqb _ _ c.if-symbols-places.false) (pass _ (eq-eqb _ _ c.if-out-xs.false) (refuse _ (lt-leb room _ c.if-work-lt-ROOM.true))))
+returns-then-work-lt-ROOM c = pass _ (le-leb _ _ c.if-code-places.false) (pass _ (eq-eqb _ _ c.if-symbols-places.false) (pass _ (eq-eqb _ _ c.if-out-code.false) (refuse _ (lt-leb room _ c.if-work-lt-ROOM.true))))
 
 pub slice_bounds-f-end : goal.slice_bounds-f-end
-slice_bounds-f-end c = (accepted_done _ c.requires.ys_value).n_most
+slice_bounds-f-end c = (accepted_done _ c.args.code.now.accepted).n_most
 
 pub slice_bounds-rebuild_run-end : goal.slice_bounds-rebuild_run-end
-slice_bounds-rebuild_run-end c = sym (length-take-le _ _ (accepted_done _ c.requires.ys_value).n_most)
+slice_bounds-rebuild_run-end c = sym (length-take-le _ _ (accepted_done _ c.args.code.now.accepted).n_most)
 
 pub rebuild_run-requires : goal.rebuild_run-requires
-rebuild_run-requires c = record { tables = c.requires.tables; ys_value = c.requires.ys_value; symbols_len = (c.if-symbols-places.false, c.if-out-xs.false, c.if-work-lt-ROOM.false, length-take-le _ _ (accepted_done _ c.requires.ys_value).n_most) }
+rebuild_run-requires c = record { symbols_len = (c.if-symbols-places.false, c.if-out-code.false, c.if-work-lt-ROOM.false, length-take-le _ _ (accepted_done _ c.args.code.now.accepted).n_most) }
 
 pub returns : goal.returns
-returns c = pass _ (le-leb _ _ c.if-xs-places.false) (pass _ (eq-eqb _ _ c.if-symbols-places.false) (pass _ (eq-eqb _ _ c.if-out-xs.false) (pass _ (le-leb room _ c.if-work-lt-ROOM.false) c.rebuild_run.ensures)))
+returns c = pass _ (le-leb _ _ c.if-code-places.false) (pass _ (eq-eqb _ _ c.if-symbols-places.false) (pass _ (eq-eqb _ _ c.if-out-code.false) (pass _ (le-leb room _ c.if-work-lt-ROOM.false) c.rebuild_run.ensures)))

@@ -1,30 +1,24 @@
 -- The places are tested, and then the engine runs with its own arrays.
-use mathlib.Core.Path.{◌≡◌, sym, ◌∙◌}
+use mathlib.Core.Path.{sym, ap, ◌∙◌}
 use native.Mathlib.Omega.{arith}
-use lib.ListN.{length}
-use Rattle.basics.specs.declared.Answer.TheVariants.{Done}
+use Rattle.basics.specs.Outcome.{answer_of}
+use Rattle.basics.proofs.Outcomes.{exit}
+use Rattle.code.specs.Shown.{shown}
 use Rattle.codewords.proofs.Accepted.{accepted_done}
-use Rattle.solving.specs.Tests.{places_answer}
-use Rattle.solving.proofs.Chains.{places_go, places_stop, are_placed}
+use Rattle.solving.proofs.Chains.{places_go, places_refused, are_placed}
 use Rattle.coder.proofs.relation.relation_placed.Goals as goal
 
-pub test_places-tested-requires : goal.test_places-tested-requires
-test_places-tested-requires c = (accepted_done _ c.requires.ys_value).n_most
+pub test_places-requires : goal.test_places-requires
+test_places-requires c = (accepted_done _ c.args.code.now.accepted).n_most
 
--- the tests were passed
-passed : (c : goal.After-relation_run-arg-in-Done-1) → places_answer (length c.args.xs.now) c.args.places.now ≡ Done
-passed c = sym c.test_places-tested.ensures ∙ c.in-Done.is
+pub returns-in_err-test_places : goal.returns-in_err-test_places
+returns-in_err-test_places c =
+    exit _ _ c.from_residual.ensures.1 (places_refused (shown c.args.code.now) _ _ (sym (ap answer_of c.in_err-test_places.was) ∙ c.test_places.ensures))
 
 pub relation_run-requires : goal.relation_run-requires
 relation_run-requires c =
-    record { tables = c.requires.tables; placed = (are_placed _ _ (passed c) c.requires.ys_value, (omega arith, omega arith), c.requires.places_len.0, c.requires.places_len.1, c.requires.places_len.2) }
-
--- the tests were passed
-passed_2 : (c : goal.After-slice_known-in-Done-2-1) → places_answer (length c.args.xs.now) c.args.places.now ≡ Done
-passed_2 c = sym c.test_places-tested.ensures ∙ c.in-Done.is
-
-pub returns-in-Done : goal.returns-in-Done
-returns-in-Done c = places_go _ _ (passed_2 c) _ c.relation_run.ensures
+    let placed = are_placed _ _ (sym c.test_places.ensures ∙ ap answer_of c.in_ok-test_places.was) c.args.code.now.accepted in
+    record { placed = (placed, (omega arith, omega arith), c.requires.places_len.0, c.requires.places_len.1, c.requires.places_len.2) }
 
 pub returns : goal.returns
-returns c = places_stop _ _ _ c.test_places-tested.ensures c.in_default.not-Done
+returns c = places_go _ _ (sym c.test_places.ensures ∙ ap answer_of c.in_ok-test_places.was) _ c.relation_run.ensures

@@ -8,26 +8,26 @@ use Rattle.solving.specs.Tests.{room}
 use Rattle.solving.proofs.Chains.{posed_as}
 use Rattle.coder.proofs.systematic_word.systematic_word_tested.Goals as goal
 
-pub returns-then-places-p : goal.returns-then-places-p
-returns-then-places-p c = refuse _ (ne_eqb _ _ c.if-places-p.true)
+pub returns-then-places-code : goal.returns-then-places-code
+returns-then-places-code c = refuse _ (ne_eqb _ _ c.if-places-code.true)
 
-pub returns-then-symbols-p : goal.returns-then-symbols-p
-returns-then-symbols-p c = pass _ (eq-eqb _ _ c.if-places-p.false) (refuse _ (ne_eqb _ _ c.if-symbols-p.true))
+pub returns-then-symbols-code : goal.returns-then-symbols-code
+returns-then-symbols-code c = pass _ (eq-eqb _ _ c.if-places-code.false) (refuse _ (ne_eqb _ _ c.if-symbols-code.true))
 
-pub returns-then-out-xs : goal.returns-then-out-xs
-returns-then-out-xs c = pass _ (eq-eqb _ _ c.if-places-p.false) (pass _ (eq-eqb _ _ c.if-symbols-p.false) (refuse _ (ne_eqb _ _ c.if-out-xs.true)))
+pub returns-then-out-code : goal.returns-then-out-code
+returns-then-out-code c = pass _ (eq-eqb _ _ c.if-places-code.false) (pass _ (eq-eqb _ _ c.if-symbols-code.false) (refuse _ (ne_eqb _ _ c.if-out-code.true)))
 
 pub returns-then-work-lt-ROOM : goal.returns-then-work-lt-ROOM
-returns-then-work-lt-ROOM c = pass _ (eq-eqb _ _ c.if-places-p.false) (pass _ (eq-eqb _ _ c.if-symbols-p.false) (pass _ (eq-eqb _ _ c.if-out-xs.false) (refuse _ (lt-leb room _ c.if-work-lt-ROOM.true))))
+returns-then-work-lt-ROOM c = pass _ (eq-eqb _ _ c.if-places-code.false) (pass _ (eq-eqb _ _ c.if-symbols-code.false) (pass _ (eq-eqb _ _ c.if-out-code.false) (refuse _ (lt-leb room _ c.if-work-lt-ROOM.true))))
 
 pub slice_bounds-f-end : goal.slice_bounds-f-end
-slice_bounds-f-end c = (accepted_done _ c.requires.ys_value).n_most
+slice_bounds-f-end c = (accepted_done _ c.args.code.now.accepted).n_most
 
 pub slice_bounds-systematic_word_run-end : goal.slice_bounds-systematic_word_run-end
-slice_bounds-systematic_word_run-end c = sym (length-take-le _ _ (accepted_done _ c.requires.ys_value).n_most)
+slice_bounds-systematic_word_run-end c = sym (length-take-le _ _ (accepted_done _ c.args.code.now.accepted).n_most)
 
 pub systematic_word_run-requires : goal.systematic_word_run-requires
-systematic_word_run-requires c = record { tables = c.requires.tables; ys_value = c.requires.ys_value; places_len = (c.if-places-p.false, c.if-symbols-p.false, c.if-out-xs.false, c.if-work-lt-ROOM.false, length-take-le _ _ (accepted_done _ c.requires.ys_value).n_most) }
+systematic_word_run-requires c = record { places_len = (c.if-places-code.false, c.if-symbols-code.false, c.if-out-code.false, c.if-work-lt-ROOM.false, length-take-le _ _ (accepted_done _ c.args.code.now.accepted).n_most) }
 
 pub returns : goal.returns
-returns c = pass _ (eq-eqb _ _ c.if-places-p.false) (pass _ (eq-eqb _ _ c.if-symbols-p.false) (pass _ (eq-eqb _ _ c.if-out-xs.false) (pass _ (le-leb room _ c.if-work-lt-ROOM.false) (meets_as (posed_as _ _ _ _ c.if-places-p.false) c.systematic_word_run.ensures))))
+returns c = pass _ (eq-eqb _ _ c.if-places-code.false) (pass _ (eq-eqb _ _ c.if-symbols-code.false) (pass _ (eq-eqb _ _ c.if-out-code.false) (pass _ (le-leb room _ c.if-work-lt-ROOM.false) (meets_as (posed_as _ _ _ _ c.if-places-code.false) c.systematic_word_run.ensures))))

@@ -1,6 +1,5 @@
 -- All sizes are small.
 use Prim.Native.Nat.{◌≤◌}
-use mathlib.Core.Path.{refl}
 use native.Mathlib.Omega.{arith}
 use Rattle.correction.proofs.Locating.{span_small}
 use Rattle.correction.proofs.run.layout.Goals as goal
@@ -14,6 +13,3 @@ overflow_mul-result c = record { fits = omega (arith, few c) }
 
 pub overflow_add-result : goal.overflow_add-result
 overflow_add-result c = record { fits = omega (arith, few c) }
-
-pub returns : goal.returns
-returns c = record { k_is = refl; t_is = c.radius-t.ensures; top_is = omega (arith, c.span_of.ensures) }

@@ -7,5 +7,5 @@ use Rattle.correction.proofs.solve.finish.Goals as goal
 
 pub returns : goal.returns
 returns c =
-    c.add_scaled.ensures ∙ ap (λ t. add_scaled (galois c.args.m) t c.args.l.now c.args.f.now) c.quotient-c.ensures
-    ∙ ap (finished c.args.m c.args.r.now c.args.l.now c.args.f.now) c.last_index-j.ensures.1
+    c.add_scaled.ensures ∙ ap (λ t. add_scaled (galois c.args.field.now.number) t c.args.l.now c.args.f.now) c.quotient-c.ensures
+    ∙ ap (finished c.args.field.now.number c.args.r.now c.args.l.now c.args.f.now) c.last_index-j.ensures.1

@@ -8,15 +8,15 @@ pub overflow_sub-count : goal.overflow_sub-count
 overflow_sub-count c = (accepted (kept_placed c.requires.decided)).k_least
 
 pub run-reached-requires : goal.run-reached-requires
-run-reached-requires c = record { tables = c.requires.tables; runs_kept = runs_kept c.requires.decided; l_len = c.requires.l_len }
+run-reached-requires c = record { runs_kept = runs_kept c.requires.decided; l_len = c.requires.l_len }
 
 pub finish-requires : goal.finish-requires
 finish-requires c =
-    record { tables = c.requires.tables; two_left = two_left c.requires.decided c.run-reached.ensures c.run-reached.ensures.second_size; r_len = (c.requires.decided.symbols_size ∙ sym c.requires.decided.kept_size, c.run-reached.ensures.word.size ∙ sym c.requires.decided.kept_size) }
+    record { two_left = two_left c.requires.decided c.run-reached.ensures c.run-reached.ensures.second_size; r_len = (c.requires.decided.symbols_size ∙ sym c.requires.decided.kept_size, c.run-reached.ensures.word.size ∙ sym c.requires.decided.kept_size) }
 
 pub finish-requires-else-turned : goal.finish-requires-else-turned
 finish-requires-else-turned c =
-    record { tables = c.requires.tables; two_left = two_left c.requires.decided c.run-reached.ensures c.run-reached.ensures.first_size; r_len = (c.requires.decided.symbols_size ∙ sym c.requires.decided.kept_size, c.run-reached.ensures.word.size ∙ sym c.requires.decided.kept_size) }
+    record { two_left = two_left c.requires.decided c.run-reached.ensures c.run-reached.ensures.first_size; r_len = (c.requires.decided.symbols_size ∙ sym c.requires.decided.kept_size, c.run-reached.ensures.word.size ∙ sym c.requires.decided.kept_size) }
 
 pub returns-then-turned : goal.returns-then-turned
 returns-then-turned c =

@@ -1,11 +1,8 @@
 -- The loop's invariant: both parts are stored over the first j coordinates.
-use Prim.Native.Nat.{ℕ, ◌-◌, ◌<◌}
+use Prim.Native.Nat.{ℕ, ◌<◌}
 use lib.ListN.{get_or}
 use Rattle.evaluation.specs.Parts.{Bytes, Right}
 use Rattle.evaluation.proofs.lanes.split.Given as goal
 
 abbrev pub invariant-loop-j : goal.invariant-loop-j
-invariant-loop-j l = Bytes l.a l.b × ((t : ℕ) → t < l.j → Right l.m l.f l.a l.b (get_or l.xs t 0))
-
-abbrev pub decreases-loop-j : goal.decreases-loop-j
-decreases-loop-j l = l.count - l.j
+invariant-loop-j l = Bytes l.a l.b × ((t : ℕ) → t < l.j → Right l.field.number l.f l.a l.b (get_or l.xs t 0))

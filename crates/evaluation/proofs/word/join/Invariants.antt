@@ -1,13 +1,8 @@
 -- The loop's invariant: the first i values are in place, and the rest of out is as it was.
 use mathlib.Core.Path.{◌≡◌}
-use Prim.Native.Nat.{◌≤◌, ◌-◌}
-use lib.ListN.{length}
 use Rattle.basics.proofs.Loops.{filled}
 use Rattle.evaluation.specs.Parts.{joined_at}
 use Rattle.evaluation.proofs.word.join.Given as goal
 
 abbrev pub invariant-loop-i : goal.invariant-loop-i
-invariant-loop-i l = (l.i ≤ length l.initial.out) × (length l.out ≡ length l.initial.out) × (l.out ≡ filled (joined_at l.m l.xs l.ys l.a l.b) l.initial.out l.i)
-
-abbrev pub decreases-loop-i : goal.decreases-loop-i
-decreases-loop-i l = length l.initial.out - l.i
+invariant-loop-i l = l.out ≡ filled (joined_at l.field.number l.xs l.ys l.a l.b) l.initial.out l.i

@@ -1,5 +1,5 @@
 -- The least of the cost and all parts is at most the cost.
-use Prim.Native.Nat.{◌*◌, ◌-◌, ◌≤◌}
+use Prim.Native.Nat.{◌-◌}
 use mathlib.Core.Path.{◌≡◌, sym, ◌∙◌, ap}
 use native.Mathlib.Omega.{arith}
 use native.Mathlib.Nat.{mul-le-mul, mul-pos}
@@ -11,17 +11,11 @@ use Rattle.patterns.proofs.Cheapest.{least_first}
 use Rattle.gap.proofs.Least.{gap_least, least_parts}
 use Rattle.gap.proofs.gap.gap.Goals as goal
 
-singles : (c : goal.After-single_left-single) → length c.args.places.now * c.args.s ≤ 73440
-singles c = mul-le-mul c.requires.1 c.requires.3
-
 pub overflow_mul-places : goal.overflow_mul-places
-overflow_mul-places c = record { fits = omega (arith, singles c) }
-
-square : (c : goal.After-less-left) → c.args.s * c.args.s ≤ 65025
-square c = mul-le-mul c.requires.3 c.requires.3
+overflow_mul-places c = record { fits = omega (arith, mul-le-mul c.requires.1 c.requires.3) }
 
 pub overflow_mul-s : goal.overflow_mul-s
-overflow_mul-s c = record { fits = omega (arith, square c) }
+overflow_mul-s c = record { fits = omega (arith, mul-le-mul c.requires.3 c.requires.3) }
 
 pub nonzero_div-left : goal.nonzero_div-left
 nonzero_div-left c = mul-pos c.requires.2 c.requires.2
@@ -31,7 +25,7 @@ all : (c : goal.After-triple_left) →
     c.triple_left.result ≡ least c.args.cost (least_left (entries c.args.trusts.now c.args.places.now) (length c.args.places.now) c.args.s c.args.tries)
 all c =
     least_parts (entries c.args.trusts.now c.args.places.now) (length c.args.places.now) c.args.s c.args.tries c.args.cost
-    c.single_left-single.ensures c.less-left.ensures c.pair_left-pair.ensures c.triple_left.ensures
+    c.single_left-single.ensures c.saturating_sub-left.ensures c.pair_left-pair.ensures c.triple_left.ensures
 
 pub overflow_sub-result : goal.overflow_sub-result
 overflow_sub-result c = rw (all c) (least_first _ _)

@@ -7,9 +7,9 @@ use Rattle.gap.proofs.left.pair_below.Goals as goal
 
 pub returns-then-k-ge2 : goal.returns-then-k-ge2
 returns-then-k-ge2 c =
-    c.smaller.ensures
+    c.min.ensures
     ∙ rw c.pair_trust.ensures.0 (sym (below_some (entries c.args.trusts.now c.args.places.now) c.args.low c.args.k (omega arith)))
 
-pub returns : goal.returns
-returns c =
+pub returns-else-k-ge2 : goal.returns-else-k-ge2
+returns-else-k-ge2 c =
     sym (below_none (entries c.args.trusts.now c.args.places.now) c.args.low c.args.k (omega arith))

@@ -8,9 +8,6 @@ use Rattle.gap.proofs.left.pair_left.Goals as goal
 pub loop-k-init : goal.loop-k-init
 loop-k-init c = (omega arith, refl)
 
-pub passed-requires : goal.passed-requires
-passed-requires c = tt
-
 -- what a turn's test says
 turn : (c : goal.In-loop-k) → (2 ≤ c.loop-k.k) × (c.loop-k.k - 1 ≤ c.loop-k.left)
 turn c = passed_true _ _ (sym c.passed.ensures ∙ c.loop-k-test.true)

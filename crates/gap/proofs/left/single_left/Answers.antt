@@ -8,9 +8,9 @@ use Rattle.gap.proofs.left.single_left.Goals as goal
 
 pub returns-then-done-places : goal.returns-then-done-places
 returns-then-done-places c =
-    c.smaller.ensures ∙ ap (min c.args.low) c.trust_of.ensures.0
+    c.min.ensures ∙ ap (min c.args.low) c.trust_of.ensures.0
     ∙ sym (single_some (entries c.args.trusts.now c.args.places.now) c.args.low _ c.args.done c.if-done-places.true)
 
-pub returns : goal.returns
-returns c =
+pub returns-else-done-places : goal.returns-else-done-places
+returns-else-done-places c =
     sym (single_none (entries c.args.trusts.now c.args.places.now) c.args.low _ c.args.done (omega arith))

@@ -4,8 +4,6 @@ use mathlib.Core.List.{List}
 use Prim.Native.Nat.{ℕ, ◌-◌, ◌<◌}
 use native.Mathlib.Omega.{arith}
 use lib.ListN.{length, get_or}
-use mir.Syntax.{w8}
-use mir.Val.{Fits}
 use Rattle.basics.proofs.Lists.{get_or_map_in}
 use Rattle.codewords.specs.Codewords.{place, symbol_at}
 use Rattle.patterns.specs.Best.{entries}
@@ -23,15 +21,8 @@ pub bounds-trusts-index_of : goal.bounds-trusts-index_of
 bounds-trusts-index_of c =
     omega (arith, c.index_of.ensures, c.chosen_place-place.ensures, c.requires.0 c.args.index.0 c.requires.1)
 
--- a trust is a byte
-byte : (c : goal.After-shared_slice_known-3-1) → Fits w8 (get_or c.args.trusts.now c.index_of.result 0)
-byte c = c.type_inv.trusts c.index_of.result
-
-pub overflow_cast-result : goal.overflow_cast-result
-overflow_cast-result c = record { fits = omega (arith, (byte c).fits) }
-
 pub returns : goal.returns
 returns c =
     let index : c.index_of.result ≡ get_or c.args.places.now c.args.index.0 0 - 1
     = c.index_of.ensures ∙ ap (λ p. p - 1) c.chosen_place-place.ensures in
-    (ap (λ i. get_or c.args.trusts.now i 0) index ∙ sym (entry_at c.args.trusts.now c.args.places.now c.args.index.0 c.requires.1), omega (arith, (byte c).fits))
+    (c.from.ensures ∙ ap (λ i. get_or c.args.trusts.now i 0) index ∙ sym (entry_at c.args.trusts.now c.args.places.now c.args.index.0 c.requires.1), omega (arith, (c.type_inv.trusts c.index_of.result).fits))

@@ -2,17 +2,8 @@
 use Prim.Native.Nat.{◌+◌, ◌<◌}
 use lib.ListN.{length}
 use native.Mathlib.Omega.{arith}
-use Rattle.generator.proofs.Turns.{rows_turned, rows_sized}
 use Rattle.generator.proofs.Progress.{first_rows_lem, second_rows}
 use Rattle.generator.proofs.advance.both_rows.Goals as goal
-
-pub raise_rows-requires-2 : goal.raise_rows-requires-2
-raise_rows-requires-2 c =
-    record { tables = c.requires.tables; row_lists = (rows_turned (rows_sized (omega arith) c.raise_rows.ensures.first_size c.raise_rows.ensures.second_size c.requires.row_lists.0), c.requires.row_lists.1) }
-
-pub both_steps-requires : goal.both_steps-requires
-both_steps-requires c =
-    record { tables = c.requires.tables; i_in_bounds = (omega (arith, c.requires.row_lists.0.points), c.requires.row_lists.1, c.requires.row_lists.2, c.requires.row_lists.3, c.requires.row_lists.4); turns = c.requires.turns }
 
 pub returns : goal.returns
 returns c =
@@ -21,6 +12,6 @@ returns c =
       a₁ = _;
       b₁ = _;
       pair = c.both_steps.ensures;
-      first = first_rows_lem c.requires.tables.field inside c.requires.row_lists.2 c.requires.row_lists.3 c.requires.turns c.raise_rows.ensures;
-      second = second_rows c.requires.tables.field inside c.requires.row_lists.2 c.requires.row_lists.3 c.requires.turns c.both_steps.ensures.passes c.raise_rows-2.ensures;
+      first = first_rows_lem c.args.field.now.tables.field inside c.requires.row_lists.2 c.requires.row_lists.3 c.requires.turns c.raise_rows.ensures;
+      second = second_rows c.args.field.now.tables.field inside c.requires.row_lists.2 c.requires.row_lists.3 c.requires.turns c.both_steps.ensures.passes c.raise_rows-2.ensures;
     }

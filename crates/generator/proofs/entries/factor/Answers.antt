@@ -5,4 +5,5 @@ use Rattle.generator.proofs.entries.factor.Goals as goal
 
 pub returns : goal.returns
 returns c =
-    record { is_log = logged c.requires.0 c.ranges.a.fits c.logarithm.ensures; times = λ b. by_logged c.requires.0 c.ranges.a.fits c.logarithm.ensures b refl }
+    let k = c.args.field.now.tables.field in
+    record { is_log = logged k c.ranges.a.fits c.logarithm.ensures; times = λ b. by_logged k c.ranges.a.fits c.logarithm.ensures b refl }

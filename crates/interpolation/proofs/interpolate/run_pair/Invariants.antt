@@ -1,8 +1,5 @@
 -- The loop's invariant: the arrays hold the pair of the first i places.
-use mathlib.Core.Path.{◌≡◌}
-use Prim.Native.Nat.{◌≤◌, ◌-◌}
 use mathlib.Core.List.{[]}
-use lib.ListN.{length}
 use Rattle.field.specs.Galois.{galois}
 use Rattle.elliptic.specs.Pair.{after}
 use Rattle.engine.specs.Arrays.{Pair}
@@ -10,7 +7,4 @@ use Rattle.engine.specs.Places.{points_of}
 use Rattle.interpolation.proofs.interpolate.run_pair.Given as goal
 
 abbrev pub invariant-loop-i : goal.invariant-loop-i
-invariant-loop-i l = (length l.l ≡ length l.initial.l) × (length l.u ≡ length l.initial.u) × (l.i ≤ l.count) × Pair l.l l.u l.n (after (galois l.m) (points_of l.xs l.ys l.places) [] l.i)
-
-abbrev pub decreases-loop-i : goal.decreases-loop-i
-decreases-loop-i l = l.count - l.i
+invariant-loop-i l = Pair l.l l.u l.n (after (galois l.field.number) (points_of l.xs l.ys l.places) [] l.i)

@@ -1,10 +1,6 @@
 -- The coefficients are copied, and zeros put behind them.
-use native.Mathlib.Omega.{arith}
 use Rattle.engine.proofs.Laws.{padded_as}
 use Rattle.interpolation.proofs.write.write_function.Goals as goal
-
-pub extend-requires : goal.extend-requires
-extend-requires c = omega (arith, c.copy.auto.out)
 
 pub returns : goal.returns
 returns c =

@@ -1,16 +1,9 @@
 -- The parts of the arrays behind their heads are lent.
-use native.Mathlib.Omega.{arith}
 use lib.ListN.{length}
 use Rattle.field.specs.Products.{product_at}
 use Rattle.values.specs.Values.{one}
-use Rattle.locator.specs.Arrays.{head}
-use Rattle.locator.proofs.Parts.{part_length}
 use Rattle.locator.proofs.First.{lent, filled, copied}
 use Rattle.locator.proofs.begin.begin_defects.Goals as goal
-
-pub fill_products-requires : goal.fill_products-requires
-fill_products-requires c =
-    record { tables = c.requires.tables; a_len = (omega (arith, c.requires.us_len.1.d_long, part_length head c.args.d.now), omega (arith, c.requires.us_len.0, c.requires.us_len.1.d_long, part_length head c.args.d.now)) }
 
 pub returns : goal.returns
 returns c =
@@ -23,5 +16,5 @@ returns c =
       in_a = filled at_a one c.fill_ones.ensures;
       in_b = copied at_b c.args.ys.now c.copy.ensures;
       in_c = copied at_c c.args.us.now c.copy-2.ensures;
-      in_d = filled at-d (product_at c.args.m c.args.ys.now c.args.us.now) c.fill_products.ensures;
+      in_d = filled at-d (product_at c.args.field.now.number c.args.ys.now c.args.us.now) c.fill_products.ensures;
     }

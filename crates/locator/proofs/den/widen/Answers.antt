@@ -1,12 +1,8 @@
 -- The part that is cleared stands behind the first s coefficients.
 use native.Mathlib.Omega.{arith}
-use borrow.Author.Tests.{lt-ltb, le-ltb}
-use Rattle.locator.proofs.Dens.{widened, widened_none}
+use borrow.Author.Tests.{lt-ltb}
+use Rattle.locator.proofs.Dens.{widened}
 use Rattle.locator.proofs.den.widen.Goals as goal
-
-pub returns-then-wide-s : goal.returns-then-wide-s
-returns-then-wide-s c =
-    (rw (le-ltb c.args.s c.args.wide c.if-wide-s.true), widened_none c.args.s c.args.row.now)
 
 pub returns : goal.returns
 returns c =

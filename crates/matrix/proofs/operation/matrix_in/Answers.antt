@@ -26,9 +26,8 @@ pub rows_turn-requires : goal.rows_turn-requires
 rows_turn-requires c =
     let a = accepted c.requires.placed.0 in
     record {
-      tables = c.requires.tables;
       fits = (
-        fits (c.begin_rows-z.auto.l ∙ c.requires.placed.2.lows ∙ sym c.begin_rows-z.ensures.firsts.size) (c.begin_rows-z.auto.u ∙ c.requires.placed.2.highs ∙ sym c.begin_rows-z.ensures.firsts.size) ((arranged_first c.requires.placed.0 c.requires.placed.1 c.begin_rows-z.ensures.firsts c.begin_rows-z.ensures.seconds).small (c.args.p.k - 1) (omega (arith, a.k_least))) c.begin_rows-z.ensures.shown,
+        fits (c.begin_rows-z.auto.l ∙ c.requires.placed.2.lows ∙ sym c.begin_rows-z.ensures.firsts.size) (c.begin_rows-z.auto.u ∙ c.requires.placed.2.highs ∙ sym c.begin_rows-z.ensures.firsts.size) ((arranged_first c.requires.placed.0 c.requires.placed.1 c.begin_rows-z.ensures.firsts c.begin_rows-z.ensures.seconds).small (c.args.code.now.k - 1) (omega (arith, a.k_least))) c.begin_rows-z.ensures.shown,
         record { points = omega (arith, c.begin_rows-z.ensures.firsts.size, a.k_least, a.k_most); firsts = omega (arith, c.begin_rows-z.auto.a, c.requires.placed.2.firsts, a.k_least, a.k_most); seconds = omega (arith, c.begin_rows-z.auto.b, c.requires.placed.2.seconds, a.k_least, a.k_most) },
         omega (arith, c.begin_rows-z.ensures.firsts.size, a.n_most),
       );
@@ -38,7 +37,6 @@ pub write_rows-requires : goal.write_rows-requires
 write_rows-requires c =
     let a = accepted c.requires.placed.0 in
     record {
-      tables = c.requires.tables;
       written = (
         record {
           points = omega (arith, c.begin_rows-z.ensures.firsts.size, a.k_most);
@@ -55,21 +53,6 @@ write_rows-requires c =
         c.requires.placed.4,
       );
     }
-
-pub shape_of-px : goal.shape_of-px
-shape_of-px c = c.begin_rows-z.auto.px
-
-pub shape_of-l : goal.shape_of-l
-shape_of-l c = c.rows_turn.auto.l ∙ c.begin_rows-z.auto.l
-
-pub shape_of-u : goal.shape_of-u
-shape_of-u c = c.rows_turn.auto.u ∙ c.begin_rows-z.auto.u
-
-pub shape_of-a : goal.shape_of-a
-shape_of-a c = c.write_rows.auto.a ∙ c.rows_turn.auto.a ∙ c.begin_rows-z.auto.a
-
-pub shape_of-b : goal.shape_of-b
-shape_of-b c = c.write_rows.auto.b ∙ c.rows_turn.auto.b ∙ c.begin_rows-z.auto.b
 
 pub returns : goal.returns
 returns c =

@@ -37,4 +37,4 @@ slice_bounds-matrix_in-end-5 c = sym (length-take-le _ _ (accepted c.requires.pl
 pub matrix_in-requires : goal.matrix_in-requires
 matrix_in-requires c =
     let most = (accepted c.requires.placed.0).n_most in
-    record { tables = c.requires.tables; placed = (c.requires.placed.0, c.requires.placed.1, record { points = length-take-le _ _ most; lows = length-take-le _ _ most; highs = length-take-le _ _ most; firsts = length-take-le _ _ most; seconds = length-take-le _ _ most }, c.requires.placed.2, c.requires.placed.3) }
+    record { placed = (c.requires.placed.0, c.requires.placed.1, record { points = length-take-le _ _ most; lows = length-take-le _ _ most; highs = length-take-le _ _ most; firsts = length-take-le _ _ most; seconds = length-take-le _ _ most }, c.requires.placed.2, c.requires.placed.3) }

@@ -18,14 +18,13 @@ arrange-requires c =
 
 pub arrange-requires-2 : goal.arrange-requires-2
 arrange-requires-2 c =
-    let same : length c.args.xs.now ≡ length c.args.ys.now = (accepted c.requires.placed.0).lengths in
+    let same : length c.args.code.now.xs.now ≡ length c.args.code.now.ys.now = (accepted c.requires.placed.0).lengths in
     record { places = rw (← same) (places_in_lem c.requires.placed.0); apart = apart c.requires.placed.0; frees = c.mark.ensures ∙ ap (table (free_at c.args.places.now)) (c.requires.placed.2.firsts ∙ same); room = c.requires.placed.2.highs ∙ same; few = omega (arith, (accepted c.requires.placed.0).n_most) }
 
 pub run_rows-requires : goal.run_rows-requires
 run_rows-requires c =
     let a = accepted c.requires.placed.0 in
     record {
-      tables = c.requires.tables;
       coordinates = (
         arranged_coordinates c.requires.placed.0 c.arrange.ensures c.arrange-2.ensures,
         c.requires.placed.2.lows ∙ sym c.arrange.ensures.size,
@@ -35,7 +34,3 @@ run_rows-requires c =
       );
       runs_first = (arranged_first c.requires.placed.0 c.requires.placed.1 c.arrange.ensures c.arrange-2.ensures, able c.requires.placed.0 c.requires.placed.1 c.arrange.ensures c.arrange-2.ensures);
     }
-
-pub returns : goal.returns
-returns c =
-    record { py = _; firsts = c.arrange.ensures; seconds = c.arrange-2.ensures; shown = c.run_rows.ensures.0; rows = c.run_rows.ensures.1 }

@@ -19,27 +19,10 @@ put_back n i from work z whole few fits size same = record {
   spared = returned_spared n i work z few fits size;
 }
 
--- the array has its place, and its end is a small number
-room : (c : goal.After-slice_known-1) → let n = length c.args.from.now in (c.args.i * n + n ≤ length c.args.work.now) × (c.args.i * n + n ≤ 2016)
-room c = let end = row_fits 7 (length c.args.from.now) c.args.i (omega (arith, c.requires.2)) in
-    (omega (arith, end, c.requires.0), omega (arith, end, c.requires.1))
-
-pub overflow_mul-start : goal.overflow_mul-start
-overflow_mul-start c = omega (arith, room c)
-
-pub overflow_add-end : goal.overflow_add-end
-overflow_add-end c = omega (arith, room c)
-
-pub slice_bounds-copy-end : goal.slice_bounds-copy-end
-slice_bounds-copy-end c = omega (arith, room c)
-
--- the array has its place, and its end is a small number
-room_2 : (c : goal.After-slice_known-2-1) → let n = length c.args.from.now in (c.args.i * n + n ≤ length c.args.work.now) × (c.args.i * n + n ≤ 2016)
-room_2 c = let end = row_fits 7 (length c.args.from.now) c.args.i (omega (arith, c.requires.2)) in
-    (omega (arith, end, c.requires.0), omega (arith, end, c.requires.1))
-
 pub returns : goal.returns
 returns c =
     let n = length c.args.from.now in
+    let end = row_fits 7 n c.args.i (omega (arith, c.requires.2)) in
+    let room : c.args.i * n + n ≤ length c.args.work.now = omega (arith, end, c.requires.0) in
     put_back n c.args.i c.args.from.now c.args.work.now c.copy.new.out
-    refl c.requires.2 (room_2 c).0 (c.copy.auto.out ∙ lent_size n c.args.i c.args.work.now (room_2 c).0) c.copy.ensures
+    refl c.requires.2 room (c.copy.auto.out ∙ lent_size n c.args.i c.args.work.now room) c.copy.ensures

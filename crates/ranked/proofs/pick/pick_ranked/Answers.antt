@@ -17,16 +17,14 @@ put_last l k a h e = let back : suc (k - 1) ≡ k = omega arith in
 pub last_index-last-requires : goal.last_index-last-requires
 last_index-last-requires c = (accepted c.requires.placed.0).k_least
 
-pub chosen_place-place-requires : goal.chosen_place-place-requires
-chosen_place-place-requires c =
-    omega (arith, c.last_index-last.ensures, index_most c.args.p.k c.last_zero-zero.result, c.requires.placed.1)
-
 pub overflow_sub-ranked : goal.overflow_sub-ranked
 overflow_sub-ranked c = (accepted c.requires.placed.0).k_least
 
 pub returns : goal.returns
 returns c =
-    let inside : cond c.last_zero-zero.result c.args.p.k (c.args.p.k - 1) ≡ length c.args.ranked.now → ⊥ = λ e. omega (arith, e, index_most c.args.p.k c.last_zero-zero.result, c.requires.placed.1) in
-    put_last c.args.ranked.now c.args.p.k c.chosen_place-place.result.0 (accepted c.requires.placed.0).k_least c.requires.placed.1
-    ∙ ap (λ a. take (c.args.p.k - 1) c.args.ranked.now ++ a ∷ []) (c.chosen_place-place.ensures ∙ ap (λ i. get_or c.args.ranked.now i 0) c.last_index-last.ensures)
+    let k = c.args.code.now.k in
+    let ranked = c.args.ranked.now in
+    let inside : cond c.last_zero-zero.result k (k - 1) ≡ length ranked → ⊥ = λ e. omega (arith, e, index_most k c.last_zero-zero.result, c.requires.placed.1) in
+    put_last ranked k c.chosen_place-place.result.0 (accepted c.requires.placed.0).k_least c.requires.placed.1
+    ∙ ap (λ a. take (k - 1) ranked ++ a ∷ []) (c.chosen_place-place.ensures ∙ ap (λ i. get_or ranked i 0) c.last_index-last.ensures)
     ∙ sym (picked c.requires.placed.0 [] (no_symbols _) (omega (arith, c.requires.placed.1)) c.last_zero-zero.ensures inside)

@@ -12,11 +12,10 @@ overflow_cast-codes c =
     record { fits = rw c.number_at.ensures (part_lt c.args.bytes.now (2 * c.loop-i.i) 2 (λ i. (c.type_inv.bytes i).fits)) }
 
 pub loop-i-preserved : goal.loop-i-preserved
-loop-i-preserved c =
-    (omega arith, filled_turn (number_at 2 c.args.bytes.now) c.args.codes.now c.loop-i.i (omega arith) c.loop-i.invariant.1 c.number_at.ensures)
+loop-i-preserved c = filled_turn (number_at 2 c.args.bytes.now) c.args.codes.now c.loop-i.i (omega arith) c.loop-i.invariant c.number_at.ensures
 
 pub returns : goal.returns
 unfolding numbers
 returns c =
     let all_read : c.loop-i.i ≡ 24 = omega arith in
-    c.loop-i.invariant.1 ∙ filled_all (number_at 2 c.args.bytes.now) c.args.codes.now c.loop-i.i (omega arith) ∙ rw all_read
+    rw all_read at c.loop-i.invariant ∙ filled_all (number_at 2 c.args.bytes.now) c.args.codes.now 24 (omega arith)

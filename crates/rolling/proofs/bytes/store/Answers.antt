@@ -8,10 +8,6 @@ use Rattle.rolling.proofs.bytes.store.Goals as goal
 pub slice_bounds-store_codes-end-2 : goal.slice_bounds-store_codes-end-2
 slice_bounds-store_codes-end-2 c = sym (length-take-le 48 c.args.out.now (omega arith))
 
-pub store_codes-requires : goal.store_codes-requires
-store_codes-requires c =
-    (c.well_formed.0.1.1.0.1.0.1, length-take-le 48 c.args.out.now (omega arith))
-
 pub returns : goal.returns
 returns c =
     state_stored c.args.state c.args.out.now _ _ _ c.requires c.store_codes.auto.out

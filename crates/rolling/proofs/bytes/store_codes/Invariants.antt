@@ -1,13 +1,9 @@
 -- The loop's invariant: the first i codes are in place.
-use Prim.Native.Nat.{◌*◌, ◌-◌}
-use mathlib.Core.Path.{◌≡◌}
-use lib.ListN.{length, take}
+use Prim.Native.Nat.{◌*◌}
+use lib.ListN.{take}
 use Rattle.basics.specs.Lists.{Holds}
 use Rattle.rolling.specs.Bytes.{in_bytes}
 use Rattle.rolling.proofs.bytes.store_codes.Given as goal
 
 abbrev pub invariant-loop-i : goal.invariant-loop-i
-invariant-loop-i l = (length l.out ≡ length l.initial.out) × Holds l.out (2 * l.i) (in_bytes 2 (take l.i l.codes))
-
-abbrev pub decreases-loop-i : goal.decreases-loop-i
-decreases-loop-i l = 24 - l.i
+invariant-loop-i l = Holds l.out (2 * l.i) (in_bytes 2 (take l.i l.codes))

@@ -1,13 +1,9 @@
--- The loop's invariant: the first j bytes are in place, and the rest of the number belongs behind them.
-use Prim.Native.Nat.{◌-◌}
+-- The loop's invariant: the bytes so far are in place, and the rest of the number belongs behind them.
 use mathlib.Core.Path.{◌≡◌}
 use mathlib.Core.List.{◌++◌}
 use lib.ListN.{length, take, drop}
 use Rattle.rolling.specs.Bytes.{bytes_of}
 use Rattle.rolling.proofs.bytes.store_number.Given as goal
 
-abbrev pub invariant-loop-j : goal.invariant-loop-j
-invariant-loop-j l = (length l.out ≡ length l.initial.out) × (take l.j l.out ++ bytes_of (length (drop l.j l.out)) l.rest ≡ bytes_of (length l.initial.out) l.x)
-
-abbrev pub decreases-loop-j : goal.decreases-loop-j
-decreases-loop-j l = length l.initial.out - l.j
+abbrev pub invariant-loop-byte : goal.invariant-loop-byte
+invariant-loop-byte l = take l.byte-index l.byte-items ++ bytes_of (length (drop l.byte-index l.byte-items)) l.rest ≡ bytes_of (length l.fn.out) l.x

@@ -1,11 +1,6 @@
--- The loop's invariant: the codes before i are in the count and the sum.
-use Prim.Native.Nat.{◌-◌}
-use lib.ListN.{length}
+-- The loop's invariant: the codes so far are in the count and the sum.
 use Rattle.rolling.proofs.Totals.{Added}
 use Rattle.rolling.proofs.mean.add_up.Given as goal
 
-abbrev pub invariant-loop-i : goal.invariant-loop-i
-invariant-loop-i l = Added l.codes l.i l.count l.sum
-
-abbrev pub decreases-loop-i : goal.decreases-loop-i
-decreases-loop-i l = length l.codes - l.i
+abbrev pub invariant-loop-code : goal.invariant-loop-code
+invariant-loop-code l = Added l.codes l.code-index l.count l.sum

@@ -1,13 +1,11 @@
-use borrow.Author.Tests.{eq-eqb, ne_eqb}
-use Rattle.basics.proofs.Loops.{all_fails, all_passes, all_ends}
+use Rattle.std.proofs.Common.{rules, tests}
+use Rattle.std.proofs.lemmas.Iterator.{YieldsList-from_slice}
+use Rattle.std.proofs.lemmas.Iterator.Adapters.{YieldsList-from_skip}
+use Rattle.std.proofs.lemmas.Iterator.Search.{all_from_yields_List}
 use Rattle.rolling.specs.State.{absent_code}
 use Rattle.rolling.proofs.state.absent_from.Goals as goal
 
-pub returns-then-codes-i-ne-ABSENT_CODE : goal.returns-then-codes-i-ne-ABSENT_CODE
-returns-then-codes-i-ne-ABSENT_CODE c = all_fails absent_code _ 0 _ c.loop-i.invariant c.loop-i-test.true (ne_eqb _ _ c.if-codes-i-ne-ABSENT_CODE.true)
-
-pub loop-i-preserved : goal.loop-i-preserved
-loop-i-preserved c = all_passes absent_code _ 0 _ c.loop-i.invariant c.loop-i-test.true (eq-eqb _ _ c.if-codes-i-ne-ABSENT_CODE.false)
-
 pub returns : goal.returns
-returns c = all_ends absent_code _ 0 _ c.loop-i.invariant c.loop-i-test.false
+returns c =
+    all_from_yields_List absent_code _ _ c.all.result c.all.ensures.ran (YieldsList-from_skip c.args.from (YieldsList-from_slice c.args.codes.now cc) cc)
+    (λ x b q k. search (rules, tests))

@@ -1,63 +1,25 @@
 use Prim.Native.Nat.{◌-◌}
-use mathlib.Core.Path.{◌≡◌, refl, ◌∙◌}
 use native.Mathlib.Omega.{arith}
-use Rattle.field.specs.Galois.{size}
-use Rattle.field.proofs.Galois.{size_le, size_ge}
-use Rattle.patterns.specs.Patterns.{down}
-use Rattle.search.proofs.Running.{going_start}
+use Rattle.field.proofs.Galois.{size_le}
+use Rattle.code.specs.Shown.{shown}
+use Rattle.codewords.specs.Code.{q}
 use Rattle.search.proofs.Loops.{going_down, going_over, runs_over}
 use Rattle.search.proofs.Pairing.{less_pair, square_few}
 use Rattle.search.proofs.pairs.try_earlier.Goals.{then-rest-gt0, else-rest-gt0}
 use Rattle.search.proofs.pairs.try_earlier.Goals as goal
 
-pub size-some-requires : goal.size-some-requires
-size-some-requires c = c.requires.tables.field
-
-size_of : (c : goal.After-size-some) → c.size-some.result ≡ size c.args.p.field
-size_of c = c.size-some.ensures
-
-pub overflow_sub-some : goal.overflow_sub-some
-overflow_sub-some c = omega (arith, size_of c, size_ge c.requires.tables.field)
-
-pub loop-i-init : goal.loop-i-init
-loop-i-init c = (omega arith, refl, going_start (down c.args.late.0) c.requires.prepared.1)
-
-pub overflow_sub-i : goal.overflow_sub-i
-overflow_sub-i c = omega (arith, c.loop-i-test.true)
-
-pub try_pair-best-requires : goal.try_pair-best-requires
-try_pair-best-requires c =
-    record { tables = c.requires.tables; prepared = (c.requires.prepared.0, c.loop-i.invariant.2.is_try, c.requires.prepared.2, c.loop-i.invariant.1 ∙ c.requires.prepared.3, c.requires.prepared.4, omega (arith, c.loop-i-test.true, c.loop-i.invariant.0)) }
-
-size_of_2 : (c : goal.Joined-rest-gt0) → c.size-some.result ≡ size c.args.p.field
-size_of_2 c = c.size-some.ensures
-
 pub overflow_mul-some : goal.overflow_mul-some
 overflow_mul-some c =
-    record { fits = omega (arith, square_few c.size-some.result (omega (arith, size_of_2 c, size_le c.requires.tables.field))) }
-
-pub less-rest-requires : goal.less-rest-requires
-less-rest-requires c = tt
-
-pub loop-i-smaller : goal.loop-i-smaller
-loop-i-smaller c = omega (arith, c.loop-i-test.true)
-
-size_of_3 : (c : goal.After-less-rest) → c.size-some.result ≡ size c.args.p.field
-size_of_3 c = c.size-some.ensures
+    record { fits = omega (arith, square_few c.size-some.result (omega (arith, size_le c.args.code.now.field.now.tables.field))) }
 
 pub loop-i-preserved : goal.loop-i-preserved
-loop-i-preserved c = (
-  omega (arith, c.loop-i.invariant.0),
-  c.if-rest-gt0.auto.early_row ∙ c.loop-i.invariant.1,
-  going_down c.loop-i.i c.loop-i-test.true (less_pair c.loop-i.rest (size c.args.p.field) c.args.p.k c.args.late.0 (size_of_3 c) (c.loop-i.i - 1) c.less-rest.ensures)
-      (elim c.if-rest-gt0.branch [
-        | then-rest-gt0 w ↦ rw w.best-is w.try_pair-best.ensures
-        | else-rest-gt0 w ↦ rw w.best-is (runs_over c.loop-i.rest _ w.if-rest-gt0.false c.loop-i.invariant.2.is_try)
-      ]) c.loop-i.invariant.2,
-)
-
-pub shape_of-early_row : goal.shape_of-early_row
-shape_of-early_row c = c.loop-i.invariant.1
+loop-i-preserved c =
+    let code = shown c.args.code.now in
+    going_down c.loop-i.i c.loop-i-test.true (less_pair c.loop-i.rest (q code) code.k c.args.late.0 c.size-some.ensures (c.loop-i.i - 1) c.saturating_sub-rest.ensures)
+    (elim c.if-rest-gt0.branch [
+      | then-rest-gt0 w ↦ rw w.best-is w.try_pair-best.ensures
+      | else-rest-gt0 w ↦ rw w.best-is (runs_over c.loop-i.rest _ w.if-rest-gt0.false c.loop-i.invariant.is_try)
+    ]) c.loop-i.invariant
 
 pub returns : goal.returns
-returns c = going_over c.loop-i.i c.loop-i-test.false c.loop-i.invariant.2
+returns c = going_over c.loop-i.i c.loop-i-test.false c.loop-i.invariant

@@ -4,4 +4,4 @@ use Rattle.search.proofs.pairs.try_late.Goals as goal
 
 pub picked_row-requires : goal.picked_row-requires
 picked_row-requires c =
-    record { tables = c.requires.tables; works = (given_works c.requires.prepared.0.given, c.requires.prepared.0.summed, c.requires.prepared.2, c.requires.prepared.4) }
+    record { works = (given_works c.requires.prepared.0.given, c.requires.prepared.0.summed, c.requires.prepared.2, c.requires.prepared.4) }

@@ -1,12 +1,11 @@
 -- The loop's invariant: the sum so far, with what is left, is the whole.
-use Prim.Native.Nat.{◌+◌, ◌*◌, ◌-◌, ◌≤◌}
+use Prim.Native.Nat.{◌+◌, ◌*◌, ◌≤◌}
 use mathlib.Core.Path.{◌≡◌}
 use lib.ListN.{length, drop}
 use Rattle.patterns.specs.Cheapest.{weigh}
 use Rattle.search.proofs.run.total.Given as goal
 
-abbrev pub invariant-loop-i : goal.invariant-loop-i
-invariant-loop-i l = (l.i ≤ length l.trusts) × (l.sum ≤ 255 * l.i) × (l.sum + weigh (drop l.i l.trusts) (drop l.i l.difference) ≡ weigh l.trusts l.difference)
-
-abbrev pub decreases-loop-i : goal.decreases-loop-i
-decreases-loop-i l = length l.trusts - l.i
+abbrev pub invariant-loop-trust : goal.invariant-loop-trust
+invariant-loop-trust l =
+    let i = length l.yielded in
+    (l.sum ≤ 255 * i) × (l.sum + weigh (drop i l.trusts) (drop i l.difference) ≡ weigh l.trusts l.difference)

@@ -1,8 +1,5 @@
 -- What fits no byte is refused in its turn, and then the job is run over the points.
-use mathlib.Core.Bool.{true}
-use mathlib.Core.Path.{◌≡◌, sym, ◌∙◌}
-use native.Mathlib.Omega.{arith}
-use Rattle.field.specs.Galois.{is_field}
+use mathlib.Core.Path.{sym, ◌∙◌}
 use Rattle.field.proofs.Galois.{is_field_lem, no_field}
 use Rattle.codewords.specs.Code.{coefficients_below}
 use Rattle.sheet.specs.Job.{curve_of, code_for, job_outcome}
@@ -18,16 +15,11 @@ pub returns-then-not-is_field : goal.returns-then-not-is_field
 unfolding job_outcome code_for
 returns-then-not-is_field c = stops _ (sym c.is_field.ensures ∙ c.if-not-is_field.true)
 
-field_ok : (c : goal.Then-not-is_small) → is_field c.args.head.field ≡ true
-field_ok c = sym c.is_field.ensures ∙ c.if-not-is_field.false
-
 pub returns-then-not-is_small : goal.returns-then-not-is_small
 unfolding job_outcome code_for coefficients_below
 returns-then-not-is_small c =
-    passes _ (field_ok c) (stops _ (too_large c.args.head.field (curve_of c.args.head) (is_field_lem c.args.head.field (field_ok c)) (sym c.is_small.ensures ∙ c.if-not-is_small.true)))
-
-pub parameters-requires : goal.parameters-requires
-parameters-requires c = (omega (arith, c.if-head-ge256.false), sym c.is_small.ensures ∙ c.if-not-is_small.false)
+    let is_field = sym c.is_field.ensures ∙ c.if-not-is_field.false in
+    passes _ is_field (stops _ (too_large c.args.head.field (curve_of c.args.head) (is_field_lem c.args.head.field is_field) (sym c.is_small.ensures ∙ c.if-not-is_small.true)))
 
 pub returns : goal.returns
 unfolding job_outcome code_for

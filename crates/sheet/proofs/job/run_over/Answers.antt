@@ -1,15 +1,11 @@
 -- The code test, and then the job of a code that passed it.
-use mathlib.Core.Path.{sym, ◌∙◌}
-use Rattle.codewords.proofs.Accepted.{check_done}
-use Rattle.sheet.proofs.Stops.{runs_as}
-use Rattle.sheet.proofs.Jobs.{code_stops}
+use mathlib.Core.Path.{sym}
+use Rattle.codewords.proofs.Accepted.{check_done, check_refused}
+use Rattle.sheet.proofs.Stops.{runs_as, exit_ran}
 use Rattle.sheet.proofs.job.run_over.Goals as goal
 
-pub run_tested-requires : goal.run_tested-requires
-run_tested-requires c = record { ys_value = sym c.test_code-tested.ensures ∙ c.in-Done.is; rooms = c.requires }
-
-pub returns-in-Done : goal.returns-in-Done
-returns-in-Done c = runs_as (check_done _ (sym c.test_code-tested.ensures ∙ c.in-Done.is) _) c.run_tested.ensures
+pub returns-in_err-test_code : goal.returns-in_err-test_code
+returns-in_err-test_code c = exit_ran _ c.from_residual.ensures.1 (sym (check_refused _ (sym c.in_err-test_code.ensures) _))
 
 pub returns : goal.returns
-returns c = code_stops _ _ c.test_code-tested.ensures c.in_default.not-Done
+returns c = runs_as (check_done _ (sym c.in_ok-test_code.ensures) _) c.run_tested.ensures

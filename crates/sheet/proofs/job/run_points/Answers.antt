@@ -1,34 +1,27 @@
 -- Points, and then the job over those that it listed.
-use Prim.Native.Nat.{◌≤◌}
+use Prim.Native.Nat.{ℕ}
 use mathlib.Core.Path.{sym}
-use native.Mathlib.Omega.{arith}
-use lib.ListN.{length}
-use lib.Seq.{length-take-le}
-use Rattle.sheet.proofs.Jobs.{points_stop, points_x, points_y, few_points}
+use Rattle.std.proofs.lemmas.List.{length-replicate}
+use Rattle.sheet.proofs.Few.{part}
+use Rattle.sheet.proofs.Stops.{exit_ran}
+use Rattle.sheet.proofs.Jobs.{points_refused, few_points, points_x, points_y}
 use Rattle.sheet.proofs.job.run_points.Goals as goal
 
+pub returns-in_err-n : goal.returns-in_err-n
+returns-in_err-n c = exit_ran _ c.from_residual.ensures.1 (points_refused c.args.p _ _ (length-replicate {A = ℕ} 288 0) (length-replicate {A = ℕ} 288 0) c.in_err-n.ensures)
+
 -- the points that were counted fit both buffers
-fits : (c : goal.In-Counted) → (c.in-Counted.n ≤ length c.points-listed.new.xs) × (c.in-Counted.n ≤ length c.points-listed.new.ys)
-fits c = let few = few_points c.args.p c.points-listed.ensures c.in-Counted.n c.in-Counted.is in
-    (omega (arith, few, c.points-listed.auto.xs, c.requires.rooms.0), omega (arith, few, c.points-listed.auto.ys, c.requires.rooms.1))
+pub slice_bounds-xs-end : goal.slice_bounds-xs-end
+slice_bounds-xs-end c = (part _ _ (few_points c.args.p c.in_ok-n.ensures) c.points.auto.xs).within
 
 pub slice_bounds-run_over-end : goal.slice_bounds-run_over-end
-slice_bounds-run_over-end c = (fits c).0
+slice_bounds-run_over-end c = sym (part _ _ (few_points c.args.p c.in_ok-n.ensures) c.points.auto.xs).part
 
-pub slice_bounds-run_over-end-in-Counted : goal.slice_bounds-run_over-end-in-Counted
-slice_bounds-run_over-end-in-Counted c = sym (length-take-le c.in-Counted.n c.points-listed.new.xs (fits c).0)
+pub slice_bounds-ys-end : goal.slice_bounds-ys-end
+slice_bounds-ys-end c = (part _ _ (few_points c.args.p c.in_ok-n.ensures) c.points.auto.ys).within
 
-pub slice_bounds-run_over-end-in-Counted-2 : goal.slice_bounds-run_over-end-in-Counted-2
-slice_bounds-run_over-end-in-Counted-2 c = (fits c).1
-
-pub slice_bounds-run_over-end-in-Counted-3 : goal.slice_bounds-run_over-end-in-Counted-3
-slice_bounds-run_over-end-in-Counted-3 c = sym (length-take-le c.in-Counted.n c.points-listed.new.ys (fits c).1)
-
-pub returns-in-Counted : goal.returns-in-Counted
-returns-in-Counted c =
-    rw (points_x c.args.p c.points-listed.ensures c.in-Counted.n c.in-Counted.is, points_y c.args.p c.points-listed.ensures c.in-Counted.n c.in-Counted.is) at c.run_over.ensures
+pub slice_bounds-run_over-end-2 : goal.slice_bounds-run_over-end-2
+slice_bounds-run_over-end-2 c = sym (part _ _ (few_points c.args.p c.in_ok-n.ensures) c.points.auto.ys).part
 
 pub returns : goal.returns
-returns c =
-    points_stop c.args.p c.args.places.now c.args.message.now c.args.xs.now c.args.ys.now c.requires.rooms.0 c.requires.rooms.1 c.points-listed.ensures.answers
-    c.in_default.not-Counted
+returns c = rw (points_x c.args.p c.in_ok-n.ensures, points_y c.args.p c.in_ok-n.ensures) at c.run_over.ensures

@@ -25,7 +25,4 @@ slice_bounds-last_zero_in-end-3 c = sym (length-take-le _ _ (k_fits c.requires.p
 pub last_zero_in-requires : goal.last_zero_in-requires
 last_zero_in-requires c =
     let fits = k_fits c.requires.placed.0 in
-    record { tables = c.requires.tables; placed = c.requires.placed; gx_len = (length-take-le _ _ fits, length-take-le _ _ fits, length-take-le _ _ fits) }
-
-pub returns : goal.returns
-returns c = c.last_zero_in.ensures
+    record { placed = c.requires.placed; gx_len = (length-take-le _ _ fits, length-take-le _ _ fits, length-take-le _ _ fits) }

@@ -1,35 +1,20 @@
 -- The tests of the lists, and then what is solved for.
-use mathlib.Core.Path.{◌≡◌, sym, ◌∙◌}
-use Rattle.basics.specs.declared.Answer.TheVariants.{Done}
-use Rattle.codewords.specs.Code.{code_of}
-use Rattle.solving.specs.Tests.{lists_answer}
-use Rattle.solving.proofs.Chains.{posed, prepared_not, prepared_done, prepared_stop}
+use mathlib.Core.Path.{sym, ap, ◌∙◌}
+use Rattle.basics.specs.Outcome.{answer_of}
+use Rattle.code.specs.Shown.{shown}
+use Rattle.solving.proofs.Chains.{posed, prepared_not, prepared_done, prepared_refused}
 use Rattle.solving.proofs.prepare.prepare.Goals as goal
 
-pub test_lists-tested-requires : goal.test_lists-tested-requires
-test_lists-tested-requires c = c.requires.ys_value
-
--- the tests were passed
-passed : (c : goal.After-solve-arg-1) → lists_answer (code_of c.args.p c.args.xs.now c.args.ys.now) c.args.places.now c.args.symbols.now ≡ Done
-passed c = sym c.test_lists-tested.ensures ∙ c.in-Done.is
+pub returns-in_err-test_lists : goal.returns-in_err-test_lists
+returns-in_err-test_lists c =
+    prepared_refused (shown c.args.code.now) _ _ _ c.from_residual.ensures.1 (sym (ap answer_of c.in_err-test_lists.was) ∙ c.test_lists.ensures)
 
 pub solve-requires : goal.solve-requires
 solve-requires c =
-    record { tables = c.requires.tables; posed = (posed _ _ _ (passed c) c.requires.ys_value c.requires.symbols_len.0, c.requires.symbols_len.1) }
-
--- the tests were passed
-passed_2 : (c : goal.Then-not-solve) → lists_answer (code_of c.args.p c.args.xs.now c.args.ys.now) c.args.places.now c.args.symbols.now ≡ Done
-passed_2 c = sym c.test_lists-tested.ensures ∙ c.in-Done.is
+    record { posed = (posed _ _ _ (sym c.test_lists.ensures ∙ ap answer_of c.in_ok-test_lists.was) c.args.code.now.accepted c.requires.symbols_len.0, c.requires.symbols_len.1) }
 
 pub returns-then-not-solve : goal.returns-then-not-solve
-returns-then-not-solve c = prepared_not _ _ _ (passed_2 c) c.solve.ensures (c.if-not-solve.true)
-
--- the tests were passed
-passed_3 : (c : goal.Else-not-solve) → lists_answer (code_of c.args.p c.args.xs.now c.args.ys.now) c.args.places.now c.args.symbols.now ≡ Done
-passed_3 c = sym c.test_lists-tested.ensures ∙ c.in-Done.is
-
-pub returns-in-Done : goal.returns-in-Done
-returns-in-Done c = prepared_done _ _ _ (passed_3 c) c.solve.ensures (c.if-not-solve.false)
+returns-then-not-solve c = prepared_not _ _ _ (sym c.test_lists.ensures ∙ ap answer_of c.in_ok-test_lists.was) c.solve.ensures c.if-not-solve.true
 
 pub returns : goal.returns
-returns c = prepared_stop _ _ _ c.test_lists-tested.ensures c.in_default.not-Done
+returns c = prepared_done _ _ _ (sym c.test_lists.ensures ∙ ap answer_of c.in_ok-test_lists.was) c.solve.ensures c.if-not-solve.false

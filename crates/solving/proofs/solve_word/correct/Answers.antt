@@ -6,4 +6,4 @@ use Rattle.solving.proofs.solve_word.correct.Goals as goal
 
 pub returns : goal.returns
 returns c =
-    c.add_scaled.ensures ∙ ap (λ t. add_scaled (galois c.args.m) t c.args.l.now c.args.f.now) c.quotient-e.ensures
+    c.add_scaled.ensures ∙ ap (λ t. add_scaled (galois c.args.field.now.number) t c.args.l.now c.args.f.now) c.quotient-e.ensures

@@ -18,11 +18,8 @@ arrange-requires c =
 
 pub arrange-requires-2 : goal.arrange-requires-2
 arrange-requires-2 c =
-    let same : length c.args.xs.now ≡ length c.args.ys.now = (accepted c.requires.placed).lengths in
+    let same : length c.args.code.now.xs.now ≡ length c.args.code.now.ys.now = (accepted c.requires.placed).lengths in
     record { places = rw (← same) (places_in_lem c.requires.placed); apart = apart c.requires.placed; frees = c.mark.ensures ∙ ap (table (free_at c.args.places.now)) (c.requires.px_len.3 ∙ same); room = c.requires.px_len.2 ∙ same; few = omega (arith, (accepted c.requires.placed).n_most) }
-
-pub fill_ones-requires : goal.fill_ones-requires
-fill_ones-requires c = tt
 
 pub returns : goal.returns
 returns c = (

@@ -31,4 +31,4 @@ slice_bounds-solve_word_in-end-4 c = sym (length-take-le _ _ (accepted c.require
 pub solve_word_in-requires : goal.solve_word_in-requires
 solve_word_in-requires c =
     let most = (accepted c.requires.posed.0.placed).n_most in
-    record { tables = c.requires.tables; posed = c.requires.posed; px_len = (length-take-le _ _ most, length-take-le _ _ most, length-take-le _ _ most, length-take-le _ _ most) }
+    record { posed = c.requires.posed; px_len = (length-take-le _ _ most, length-take-le _ _ most, length-take-le _ _ most, length-take-le _ _ most) }

@@ -8,13 +8,6 @@ use Rattle.solving.proofs.Arranged.{places_in_lem, apart}
 use Rattle.solving.proofs.Interpolant.{unsolved, restores}
 use Rattle.solving.proofs.solve_word.solve_word_in.Goals as goal
 
-pub lay_out-requires : goal.lay_out-requires
-lay_out-requires c = record { placed = c.requires.posed.0.placed; px_len = (c.requires.px_len.0, c.requires.px_len.1, c.requires.px_len.2, c.requires.posed.1) }
-
-pub solve_laid-requires : goal.solve_laid-requires
-solve_laid-requires c =
-    record { tables = c.requires.tables; posed = (c.requires.posed.0, c.lay_out.ensures.0, c.requires.px_len.3 ∙ sym c.lay_out.ensures.0.firsts.size) }
-
 pub returns-then-not-solve_laid : goal.returns-then-not-solve_laid
 returns-then-not-solve_laid c = unsolved (sym c.solve_laid.ensures.free ∙ c.if-not-solve_laid.true)
 

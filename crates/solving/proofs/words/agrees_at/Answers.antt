@@ -1,27 +1,15 @@
 use mathlib.Core.Path.{refl, sym, ◌∙◌}
 use mathlib.Core.List.{map}
 use native.Mathlib.Omega.{arith}
-use lib.ListN.{length, length-map}
+use lib.ListN.{length-map}
 use Rattle.basics.proofs.Loops.{same_fails, same_passes, same_ends}
 use Rattle.codewords.specs.Codewords.{symbol_at, agrees}
-use Rattle.solving.proofs.Link.{place_at_lem}
 use Rattle.solving.proofs.words.agrees_at.Invariants.{symbol, read}
 use Rattle.solving.proofs.words.agrees_at.Goals as goal
 
 pub loop-i-init : goal.loop-i-init
 unfolding agrees symbol_at
 loop-i-init c = refl
-
-pub index_of-requires : goal.index_of-requires
-index_of-requires c =
-    omega (arith, c.chosen_place-place.ensures, (place_at_lem (length c.args.f.now) c.args.places.now c.requires.0 c.loop-i.i c.loop-i-test.true).0)
-
-pub bounds-f-index_of : goal.bounds-f-index_of
-bounds-f-index_of c =
-    omega (arith, c.index_of.ensures, c.chosen_place-place.ensures, (place_at_lem (length c.args.f.now) c.args.places.now c.requires.0 c.loop-i.i c.loop-i-test.true).1)
-
-pub message_symbol-requires : goal.message_symbol-requires
-message_symbol-requires c = omega (arith, c.loop-i-test.true, c.requires.1)
 
 pub returns-then-f-index_of : goal.returns-then-f-index_of
 returns-then-f-index_of c =

@@ -17,6 +17,3 @@ read f places i h e₁ e₂ = get_or_map_in (symbol f) places i 0 0 h ∙ ap (sy
 
 abbrev pub invariant-loop-i : goal.invariant-loop-i
 invariant-loop-i l = same (drop l.i (map (symbol l.f) l.places)) (drop l.i l.symbols) ≡ agrees l.f l.places l.symbols
-
-abbrev pub decreases-loop-i : goal.decreases-loop-i
-decreases-loop-i l = length l.places - l.i

@@ -1,6 +1,6 @@
 -- The lent part becomes zero, and the rest stands behind it.
 use Prim.Native.Nat.{ℕ, ◌≤◌}
-use mathlib.Core.Path.{◌≡◌, refl, sym, ◌∙◌, ap}
+use mathlib.Core.Path.{◌≡◌, sym, ◌∙◌, ap}
 use mathlib.Core.Bool.{true}
 use mathlib.Core.List.{List, ◌++◌}
 use native.Mathlib.Omega.{arith}
@@ -14,9 +14,6 @@ use Rattle.solving.proofs.work.clear_room.Goals as goal
 -- a part of at most the room has the length that it says
 part : {n : ℕ} (work : List ℕ) → room ≤ length work → leb n room ≡ true → n ≡ length (take n work)
 part {n} work h e = sym (length-take-le n work (omega (arith, leb-true n room e)))
-
-pub slice_bounds-clear-end-2 : goal.slice_bounds-clear-end-2
-slice_bounds-clear-end-2 c = part c.args.work.now c.requires refl
 
 pub returns : goal.returns
 returns c =

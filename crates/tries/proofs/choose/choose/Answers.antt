@@ -6,29 +6,17 @@ use Rattle.tries.proofs.choose.choose.Goals.{then-c-cost, else-c-cost}
 use Rattle.tries.proofs.choose.choose.Goals as goal
 
 pub loop-j-init : goal.loop-j-init
-loop-j-init c =
-    (omega arith, c.requires.0, tried_start c.args.fixed c.args.slots.now c.args.half c.args.from (c.args.best.cost, c.args.best.e))
-
-pub overflow_sub-c : goal.overflow_sub-c
-overflow_sub-c c =
-    c.requires.3 c.loop-j.j c.loop-j.invariant.0 c.loop-j-test.true
-
-pub multiple_of-e-requires : goal.multiple_of-e-requires
-multiple_of-e-requires c =
-    (c.requires.2, omega (arith, c.loop-j-test.true, c.requires.1))
+loop-j-init c = tried_start c.args.fixed c.args.slots.now c.args.half c.args.from (c.args.best.cost, c.args.best.e)
 
 pub loop-j-preserved : goal.loop-j-preserved
 loop-j-preserved c =
-    let best : Priced = (c.args.best.cost, c.args.best.e) in (
-      omega (arith, c.loop-j.invariant.0),
-      omega (arith, c.loop-j-test.true),
-      elim c.if-c-cost.branch [
-        | then-c-cost w ↦ tried_takes c.args.fixed c.args.slots.now c.args.half c.args.from best c.loop-j.invariant.0 c.loop-j.invariant.2 w.if-c-cost.true w.cost-is (w.e-is ∙ w.multiple_of-e.ensures)
-        | else-c-cost w ↦ tried_keeps c.args.fixed c.args.slots.now c.args.half c.args.from best c.loop-j.invariant.0 c.loop-j.invariant.2 w.if-c-cost.false w.cost-is w.e-is
-      ],
-    )
+    let best : Priced = (c.args.best.cost, c.args.best.e) in
+    elim c.if-c-cost.branch [
+      | then-c-cost w ↦ tried_takes c.args.fixed c.args.slots.now c.args.half c.args.from best (omega arith) c.loop-j.invariant w.if-c-cost.true w.cost-is (w.e-is ∙ w.multiple_of-e.ensures)
+      | else-c-cost w ↦ tried_keeps c.args.fixed c.args.slots.now c.args.half c.args.from best (omega arith) c.loop-j.invariant w.if-c-cost.false w.cost-is w.e-is
+    ]
 
 pub returns : goal.returns
 returns c =
-    let e : c.args.to ≡ c.loop-j.j = omega (arith, c.loop-j.invariant.1, c.loop-j-test.false) in
-    rw e c.loop-j.invariant.2
+    let e : c.args.to ≡ c.loop-j.j = omega arith in
+    rw e c.loop-j.invariant

@@ -5,7 +5,3 @@ use Rattle.two_places.proofs.run.advance_turn.Goals as goal
 pub returns-then-turned : goal.returns-then-turned
 returns-then-turned c =
     rw c.if-turned.true (advances_round c.swapped.ensures c.advance-d.ensures)
-
-pub returns : goal.returns
-returns c =
-    rw c.if-turned.false c.advance.ensures

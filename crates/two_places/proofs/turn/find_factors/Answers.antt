@@ -14,5 +14,5 @@ returns c =
     record {
       first = c.quotient-t.ensures;
       next = ap next c.product.ensures;
-      second = c.quotient-s.ensures ∙ ap (λ r. product c.args.m r (inverse c.args.m (next c.product.result))) c.product-raised.ensures;
+      second = c.quotient-s.ensures ∙ ap (λ r. product c.args.field.now.number r (inverse c.args.field.now.number (next c.product.result))) c.product-raised.ensures;
     }

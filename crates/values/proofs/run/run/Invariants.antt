@@ -1,15 +1,8 @@
 -- The loop's invariant: the arrays show the pair and the interpolant of the first i points, at the points from i on.
-use mathlib.Core.Path.{◌≡◌}
-use Prim.Native.Nat.{◌≤◌, ◌-◌}
-use lib.ListN.{length}
 use Rattle.field.specs.Galois.{galois}
 use Rattle.elliptic.specs.Pair.{after}
 use Rattle.values.specs.Values.{Shows, ShownIn, points_in}
 use Rattle.values.proofs.run.run.Given as goal
 
 abbrev pub invariant-loop-i : goal.invariant-loop-i
-invariant-loop-i l = (length l.l ≡ length l.xs) × (length l.u ≡ length l.xs) × (length l.f ≡ length l.xs) × (l.i ≤ l.count)
-    × ShownIn l.m l.xs l.initial.u l.i l.l l.u l.n (after (galois l.m) (points_in l.xs l.initial.u) l.symbols l.i) × Shows l.m l.xs l.initial.u l.i (after (galois l.m) (points_in l.xs l.initial.u) l.symbols l.i).word l.f
-
-abbrev pub decreases-loop-i : goal.decreases-loop-i
-decreases-loop-i l = l.count - l.i
+invariant-loop-i l = ShownIn l.field.number l.xs l.initial.u l.i l.l l.u l.n (after (galois l.field.number) (points_in l.xs l.initial.u) l.symbols l.i) × Shows l.field.number l.xs l.initial.u l.i (after (galois l.field.number) (points_in l.xs l.initial.u) l.symbols l.i).word l.f

@@ -7,14 +7,14 @@ pub loop-i-init : goal.loop-i-init
 loop-i-init c = (sweeping_none _ _ _, sweeping_none _ _ _)
 
 pub product_by_log-gain-requires : goal.product_by_log-gain-requires
-product_by_log-gain-requires c = (c.requires.tables, logged c.requires.tables.field c.ranges.t.fits c.logarithm-by_t.ensures)
+product_by_log-gain-requires c = logged c.args.field.now.tables.field c.ranges.t.fits c.logarithm-by_t.ensures
 
 pub loop-i-preserved : goal.loop-i-preserved
 loop-i-preserved c =
     let old = c.loop-i.invariant.0.rest c.loop-i.i (omega arith) in
-    let gain = by_logged c.requires.tables.field c.ranges.t.fits c.logarithm-by_t.ensures _ c.product_by_log-gain.ensures in (
-      sweeping_turn _ _ _ c.loop-i.i (omega (arith, c.requires.h_len.0)) c.loop-i.invariant.0 (raised_by c.args.m c.loop-i.invariant.0 c.args.xs.now c.args.alpha c.product.ensures),
-      sweeping_turn _ _ _ c.loop-i.i (omega (arith, c.requires.h_len.1)) c.loop-i.invariant.1 (gained_by c.args.m c.args.t c.args.h.now c.loop-i.invariant.1 old gain),
+    let gain = by_logged c.args.field.now.tables.field c.ranges.t.fits c.logarithm-by_t.ensures _ c.product_by_log-gain.ensures in (
+      sweeping_turn _ _ _ c.loop-i.i (omega (arith, c.requires.h_len.0)) c.loop-i.invariant.0 (raised_by c.args.field.now.number c.loop-i.invariant.0 c.args.xs.now c.args.alpha c.product.ensures),
+      sweeping_turn _ _ _ c.loop-i.i (omega (arith, c.requires.h_len.1)) c.loop-i.invariant.1 (gained_by c.args.field.now.number c.args.t c.args.h.now c.loop-i.invariant.1 old gain),
     )
 
 pub returns : goal.returns

@@ -1,11 +1,6 @@
 -- The loop's invariant: the values behind i are by the rules, and the rest is as it was.
-use Prim.Native.Nat.{◌-◌}
-use lib.ListN.{length}
 use Rattle.values.specs.Values.{Sweeping, raised_at, gained_at}
 use Rattle.values.proofs.sweep.gain_raise.Given as goal
 
 abbrev pub invariant-loop-i : goal.invariant-loop-i
-invariant-loop-i l = Sweeping (raised_at l.m l.xs l.alpha l.initial.h) l.from l.i l.initial.h l.h × Sweeping (gained_at l.m l.t l.initial.h l.initial.g) l.from l.i l.initial.g l.g
-
-abbrev pub decreases-loop-i : goal.decreases-loop-i
-decreases-loop-i l = length l.xs - l.i
+invariant-loop-i l = Sweeping (raised_at l.field.number l.xs l.alpha l.initial.h) l.from l.i l.initial.h l.h × Sweeping (gained_at l.field.number l.t l.initial.h l.initial.g) l.from l.i l.initial.g l.g

@@ -7,7 +7,7 @@ loop-i-init c = sweeping_none _ _ _
 
 pub loop-i-preserved : goal.loop-i-preserved
 loop-i-preserved c =
-    sweeping_turn _ _ _ c.loop-i.i (omega (arith, c.requires.h_len)) c.loop-i.invariant (raised_by c.args.m c.loop-i.invariant c.args.xs.now c.args.alpha c.product.ensures)
+    sweeping_turn _ _ _ c.loop-i.i (omega (arith, c.requires.h_len)) c.loop-i.invariant (raised_by c.args.field.now.number c.loop-i.invariant c.args.xs.now c.args.alpha c.product.ensures)
 
 pub returns : goal.returns
 returns c = sweeping_all _ _ _ (omega (arith, c.requires.h_len)) c.loop-i.invariant

@@ -4,6 +4,3 @@ use Rattle.values.proofs.word.word_turn.Goals as goal
 
 pub returns-then-turned : goal.returns-then-turned
 returns-then-turned c = rw c.if-turned.true (words_round c.swapped.ensures c.word_step.ensures)
-
-pub returns : goal.returns
-returns c = rw c.if-turned.false c.word_step-2.ensures

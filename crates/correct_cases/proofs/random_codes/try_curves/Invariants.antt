@@ -1,9 +1,0 @@
--- The loop counts the curves.
-use Prim.Native.Nat.{◌-◌}
-use Rattle.correct_cases.proofs.random_codes.try_curves.Given as goal
-
-abbrev pub invariant-loop-i : goal.invariant-loop-i
-invariant-loop-i l = Unit {0}
-
-abbrev pub decreases-loop-i : goal.decreases-loop-i
-decreases-loop-i l = l.curves - l.i

@@ -1,9 +1,0 @@
--- The loop goes over the dimensions.
-use Prim.Native.Nat.{◌-◌, ◌≤◌}
-use Rattle.correct_cases.proofs.small_codes.all_b.Given as goal
-
-abbrev pub invariant-loop-k : goal.invariant-loop-k
-invariant-loop-k l = l.k ≤ 7
-
-abbrev pub decreases-loop-k : goal.decreases-loop-k
-decreases-loop-k l = 7 - l.k

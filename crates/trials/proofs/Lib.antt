@@ -1,2 +1,0 @@
--- The laws of the program's lists.
-pub mod Parts
