@@ -12,7 +12,7 @@ use basics::Refusal;
 use code::accepted::Code;
 use code::lists::all_below;
 use codewords::Parameters;
-use field::Field;
+use field::{Field, test_number};
 use solving::work::ROOM;
 
 // The greatest budget.
@@ -89,7 +89,8 @@ pub fn best(
     ensures { Meets (best_outcome (code_of code xs.now ys.now) received.now trusts.now budget out.old figures.old work.old) (answer_of result)
         (out.old, figures.old, work.old) (out.new, figures.new, work.new) }
 {
-    let field = Field::new(code.field)?;
+    test_number(code.field)?;
+    let field = Field::of(code.field);
     let accepted = Code::new(&field, code.curve, code.k, xs, ys)?;
     best_tested(&accepted, received, trusts, budget, out, figures, work)
 }

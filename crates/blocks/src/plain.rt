@@ -10,7 +10,7 @@ use code::accepted::Code;
 use code::lists::all_below;
 use codewords::Parameters;
 use evaluation::word::write_word;
-use field::Field;
+use field::{Field, test_number};
 
 // Plain of a code that passed the code test.
 fn plain_tested(code: &Code, coefficients: &[u8], out: &mut [u8]) -> Result<(), Refusal>
@@ -42,7 +42,8 @@ pub fn plain(
     ensures { Meets (plain_outcome (code_of code xs.now ys.now) coefficients.now (length out.old))
         (answer_of result) out.old out.new }
 {
-    let field = Field::new(code.field)?;
+    test_number(code.field)?;
+    let field = Field::of(code.field);
     let accepted = Code::new(&field, code.curve, code.k, xs, ys)?;
     plain_tested(&accepted, coefficients, out)
 }

@@ -1,6 +1,8 @@
--- An operation that begins with the code test: what a refusal of the test, and what an accepted code, say of its outcome.
+-- An operation that begins with the code test: what a refusal of the test, and what an accepted code, say of its outcome. It goes on where the answer of
+-- the test is Done, and else the answer is the operation's own.
+use Prim.{Unit}
 use Prim.Native.Nat.{ℕ, ◌≤◌}
-use mathlib.Core.Bool.{true, false}
+use mathlib.Core.Bool.{Bool, true, false}
 use mathlib.Core.List.{List}
 use mathlib.Core.Path.{◌≡◌, refl, ap, ◌∙◌}
 use Rattle.basics.specs.declared.Refusal.{Refusal}
@@ -8,7 +10,7 @@ use Rattle.basics.specs.declared.Refusal.TheVariants.{FieldNumber}
 use borrow.Author.Tests.{leb-true}
 use lib.Dec.{eqb, leb}
 use lib.ListN.{length}
-use Rattle.basics.specs.Outcome.{Answer, Refused, Outcome, check, answer, left, counts, Meets}
+use Rattle.basics.specs.Outcome.{Answer, Done, Refused, Outcome, check, answer, left, counts, Meets}
 use Rattle.basics.proofs.Outcomes.{refuse, meets_as, counts_check, counts_if}
 use Rattle.basics.proofs.Lists.{both}
 use Rattle.field.specs.Galois.{is_field}
@@ -18,6 +20,33 @@ use Rattle.codewords.proofs.Accepted.{check_done, check_refused}
 use Rattle.code.specs.declared.accepted.Code.{Code as Accepted}
 use Rattle.code.specs.Parts.{code_with}
 use Rattle.code.specs.Shown.{shown}
+
+-- a chain of tests before an accepted outcome answers Done, or refuses
+data Answered (a : Answer) : Type 0 where
+  done : a ≡ Done → Answered a
+  stopped : (e : Refusal) → a ≡ Refused e → Answered a
+
+answered : (b : Bool) (e : Refusal) (u : Outcome (Unit {0})) → Answered (answer u) → Answered (answer (check b e u))
+unfolding check answer
+answered true e u h = h
+answered false e u h = stopped e refl
+
+module _ (code : Code) where
+  verdict : Answered (code_answer code)
+  unfolding code_answer answer
+  verdict = answered _ _ _ (answered _ _ _ (answered _ _ _ (answered _ _ _ (answered _ _ _ (answered _ _ _ (answered _ _ _ (done refl)))))))
+
+  module _ {M : Type 0} (o : Outcome M) where
+    pub go_on : {r : Answer} {old new : M} → code_answer code ≡ Done → Meets o r old new → Meets (check_code code o) r old new
+    go_on h m = meets_as (check_done code h o) m
+
+    pub stop : {r : Answer} {old : M} → r ≡ code_answer code → (r ≡ Done → ⊥) → Meets (check_code code o) r old old
+    unfolding answer left
+    stop {r} {old} e d = by verdict
+      where
+        by : Answered (code_answer code) → Meets (check_code code o) r old old
+        by (done h) = absurd (d (e ∙ h))
+        by (stopped x h) = meets_as (check_refused code h o) (record { answers = e ∙ h; leaves = refl })
 
 module _ {M : Type 0} {old : M} where
   -- there is no field of this number
@@ -43,7 +72,7 @@ module _ (p : Parameters) (xs ys : List ℕ) {m : ℕ} (number : m ≡ p.field) 
       → Meets (o (shown c)) r old new → Meets (check_code (code_of p xs ys) (o (code_of p xs ys))) r old new
   opened o c e h =
       let same = e ∙ given in
-      meets_as (check_done _ (rw same at c.accepted) _) (rw same at h)
+      go_on _ _ (rw same at c.accepted) (rw same at h)
 
 -- the same of the answer of the code test alone
 pub no_field_answer : (p : Parameters) (xs ys : List ℕ) {e : Refusal} → (e ≡ FieldNumber) × (is_field p.field ≡ false) → Refused e ≡ code_answer (code_of p xs ys)

@@ -11,7 +11,7 @@ use crate::test::test_code_with;
 use basics::Refusal;
 use bitset::{list_set, word};
 use codewords::Parameters;
-use field::Field;
+use field::{Field, test_number};
 
 // No bit is set past the n-th: none from bit n mod 64 of word n div 64 on, and none in the words after it.
 fn none_past(mask: &[u8], n: usize) -> bool
@@ -68,7 +68,8 @@ pub fn heard(
 ) -> Result<usize, Refusal>
     ensures { Meets (heard_outcome (code_of code xs.now ys.now) mask.now out.old) (count_of result) out.old out.new }
 {
-    let field = Field::new(code.field)?;
+    test_number(code.field)?;
+    let field = Field::of(code.field);
     let accepted = Code::new(&field, code.curve, code.k, xs, ys)?;
     heard_tested(accepted.xs.len(), mask, out)
 }

@@ -12,7 +12,7 @@ use basics::Refusal;
 use codewords::Parameters;
 use curve::{coefficients_below, is_singular, on_curve, opposite};
 use elliptic::{Curve, Point};
-use field::Field;
+use field::{Field, test_number};
 
 // What one pass over the points finds: all are points of the curve; no slot is met twice.
 #[derive(Clone, Copy)]
@@ -113,7 +113,7 @@ pub fn test_code_with(
 ) -> Result<(), Refusal>
     ensures { answer_of result ≡ code_answer (code_with field.now.number c k xs.now ys.now) }
 {
-    if !coefficients_below(field, c) {
+    if !coefficients_below(field.number, c) {
         return Err(Refusal::CurveCoefficient);
     }
     test_points(field, c, k, xs, ys)
@@ -123,6 +123,7 @@ pub fn test_code_with(
 pub fn test_code(p: Parameters, xs: &[u8], ys: &[u8]) -> Result<(), Refusal>
     ensures { answer_of result ≡ code_answer (code_of p xs.now ys.now) }
 {
-    let field = Field::new(p.field)?;
+    test_number(p.field)?;
+    let field = Field::of(p.field);
     test_code_with(&field, p.curve, p.k, xs, ys)
 }

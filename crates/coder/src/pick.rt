@@ -12,7 +12,7 @@ use basics::{MessageIndex, Refusal};
 use code::accepted::Code;
 use codewords::Parameters;
 use engine::places::chosen_place;
-use field::Field;
+use field::{Field, test_number};
 use solving::last_index::last_index;
 use solving::last_zero::last_zero;
 use solving::tests::test_places;
@@ -90,7 +90,8 @@ pub fn pick(
     ensures { Meets (pick_outcome (code_of code xs.now ys.now) ranked.now out.old work.old) (answer_of result)
         (out.old, work.old) (out.new, work.new) }
 {
-    let field = Field::new(code.field)?;
+    test_number(code.field)?;
+    let field = Field::of(code.field);
     let accepted = Code::new(&field, code.curve, code.k, xs, ys)?;
     pick_tested(&accepted, ranked, out, work)
 }

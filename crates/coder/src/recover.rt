@@ -11,7 +11,7 @@ ghost use Rattle.coder.specs.Stages.{place_at, recover_run, recover_tested};
 use basics::{MessageIndex, Place, Refusal};
 use code::accepted::Code;
 use codewords::Parameters;
-use field::Field;
+use field::{Field, test_number};
 use interpolation::write::write_function;
 use solving::prepare::prepare;
 use solving::words::agrees_all;
@@ -111,7 +111,8 @@ pub fn recover(
     ensures { Meets (recover_outcome (code_of code xs.now ys.now) symbols.now out.old work.old) (answer_of result)
         (out.old, work.old) (out.new, work.new) }
 {
-    let field = Field::new(code.field)?;
+    test_number(code.field)?;
+    let field = Field::of(code.field);
     let accepted = Code::new(&field, code.curve, code.k, xs, ys)?;
     recover_tested(&accepted, symbols, out, work)
 }

@@ -13,7 +13,7 @@ use basics::{MessageIndex, Refusal};
 use code::accepted::Code;
 use codewords::Parameters;
 use engine::places::chosen_place;
-use field::Field;
+use field::{Field, test_number};
 use interpolation::interpolate::run_pair;
 use interpolation::write::write_low;
 use solving::tests::test_places;
@@ -96,7 +96,8 @@ pub fn relation(
     ensures { Meets (relation_outcome (code_of code xs.now ys.now) places.now out.old work.old) (answer_of result)
         (out.old, work.old) (out.new, work.new) }
 {
-    let field = Field::new(code.field)?;
+    test_number(code.field)?;
+    let field = Field::of(code.field);
     let accepted = Code::new(&field, code.curve, code.k, xs, ys)?;
     relation_tested(&accepted, places, out, work)
 }

@@ -10,7 +10,7 @@ ghost use Rattle.coder.specs.Stages.{function_run, function_tested};
 use basics::Refusal;
 use code::accepted::Code;
 use codewords::Parameters;
-use field::Field;
+use field::{Field, test_number};
 use interpolation::write::write_function;
 use solving::prepare::prepare;
 use solving::work::{ROOM, clear_room};
@@ -74,7 +74,8 @@ pub fn systematic_function(
     ensures { Meets (systematic_function_outcome (code_of code xs.now ys.now) places.now symbols.now out.old work.old) (answer_of result)
         (out.old, work.old) (out.new, work.new) }
 {
-    let field = Field::new(code.field)?;
+    test_number(code.field)?;
+    let field = Field::of(code.field);
     let accepted = Code::new(&field, code.curve, code.k, xs, ys)?;
     systematic_function_tested(&accepted, places, symbols, out, work)
 }

@@ -11,7 +11,7 @@ use basics::Refusal;
 use code::accepted::Code;
 use codewords::Parameters;
 use engine::slices::copy;
-use field::Field;
+use field::{Field, test_number};
 use solving::prepare_word::prepare_word;
 use solving::work::{ROOM, clear_room};
 
@@ -75,7 +75,8 @@ pub fn systematic_word(
     ensures { Meets (systematic_word_outcome (code_of code xs.now ys.now) places.now symbols.now out.old work.old) (answer_of result)
         (out.old, work.old) (out.new, work.new) }
 {
-    let field = Field::new(code.field)?;
+    test_number(code.field)?;
+    let field = Field::of(code.field);
     let accepted = Code::new(&field, code.curve, code.k, xs, ys)?;
     systematic_word_tested(&accepted, places, symbols, out, work)
 }

@@ -12,7 +12,7 @@ use basics::Refusal;
 use code::accepted::Code;
 use code::lists::all_below;
 use codewords::Parameters;
-use field::Field;
+use field::{Field, test_number};
 use solving::work::ROOM;
 
 // Correct of a code that passed the code test.
@@ -47,7 +47,8 @@ pub fn correct(
     ensures { Meets (correct_outcome (code_of code xs.now ys.now) r.now out.old work.old) (count_of result)
         (out.old, work.old) (out.new, work.new) }
 {
-    let field = Field::new(code.field)?;
+    test_number(code.field)?;
+    let field = Field::of(code.field);
     let accepted = Code::new(&field, code.curve, code.k, xs, ys)?;
     correct_tested(&accepted, r, out, work)
 }

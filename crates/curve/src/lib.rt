@@ -15,7 +15,7 @@ ghost use Rattle.curve.specs.Roots.{square_plus, Inverts, Found, AllFound, lesse
 
 use basics::Refusal;
 use elliptic::{Curve, Point};
-use field::{Field, add};
+use field::{Field, add, size, test_number};
 
 // The length of each buffer for points.
 const ROOM: usize = 288;
@@ -63,10 +63,11 @@ pub fn opposite(field: &Field, c: Curve, p: Point) -> Point
 }
 
 // Whether all five coefficients are elements of the field.
-pub fn coefficients_below(field: &Field, c: Curve) -> bool
-    ensures { result ≡ coefficients_below (size field.now.number) c }
+pub fn coefficients_below(m: u8, c: Curve) -> bool
+    requires { IsField m }
+    ensures { result ≡ coefficients_below (size m) c }
 {
-    let q = field.size();
+    let q = size(m);
     let coefficients = [c.g1, c.g2, c.g3, c.g4, c.g6];
     coefficients.iter().all(|g| usize::from(*g) < q)
 }
@@ -247,10 +248,11 @@ fn fill_points(field: &Field, c: Curve, xs: &mut [u8], ys: &mut [u8]) -> usize
 pub fn points(m: u8, c: Curve, xs: &mut [u8], ys: &mut [u8]) -> Result<usize, Refusal>
     ensures { Meets (points_outcome m c xs.old ys.old) (count_of result) (xs.old, ys.old) (xs.new, ys.new) }
 {
-    let field = Field::new(m)?;
-    if !coefficients_below(&field, c) {
+    test_number(m)?;
+    if !coefficients_below(m, c) {
         return Err(Refusal::CurveCoefficient);
     }
+    let field = Field::of(m);
     if is_singular(&field, c) {
         return Err(Refusal::Singular);
     }

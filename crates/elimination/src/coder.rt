@@ -5,7 +5,7 @@ ghost use Rattle.elimination.specs.Sizes.{Room};
 use crate::equations::{Added, WIDTH, add_equation, clear, solve};
 use crate::slices::{inner_product, monomials};
 use basics::Refusal;
-use field::Field;
+use field::{Field, test_number};
 
 // 288 rows of 289 entries.
 pub const ROOM: usize = 83232;
@@ -76,7 +76,7 @@ pub fn eliminate(
     rows: &mut [u8],
     marks: &mut [Added],
 ) -> Result<(), Refusal> {
-    let field = Field::new(m)?;
+    test_number(m)?;
     if k > 288 {
         return Err(Refusal::Dimension);
     }
@@ -86,6 +86,7 @@ pub fn eliminate(
     if !places.iter().all(|p| is_place(xs.len(), ys.len(), *p)) {
         return Err(Refusal::Place);
     }
+    let field = Field::of(m);
     let mut equation = [0; WIDTH];
     let width = k + 1;
     clear(rows, k);
@@ -105,11 +106,11 @@ pub fn eliminate(
 // The function that the equations give, or with `right` false the one that they give if every symbol is 0; a free coefficient is 1.
 // Refused if the field number or a length is wrong.
 pub fn solution(m: u8, rows: &[u8], right: bool, function: &mut [u8]) -> Result<(), Refusal> {
-    let field = Field::new(m)?;
+    test_number(m)?;
     if rows.len() != ROOM || function.len() > 288 {
         return Err(Refusal::Length);
     }
-    solve(&field, rows, right, function);
+    solve(&Field::of(m), rows, right, function);
     Ok(())
 }
 
@@ -132,11 +133,12 @@ fn fill_word(field: &Field, xs: &[u8], ys: &[u8], function: &[u8], row: &mut [u8
 
 // The word of a function. Refused if the field number or a length is wrong.
 pub fn word(m: u8, xs: &[u8], ys: &[u8], function: &[u8], out: &mut [u8]) -> Result<(), Refusal> {
-    let field = Field::new(m)?;
+    test_number(m)?;
     let k = function.len();
     if k > 289 || xs.len() != out.len() || ys.len() != out.len() {
         return Err(Refusal::Length);
     }
+    let field = Field::of(m);
     let mut row = [0; WIDTH];
     fill_word(&field, xs, ys, function, &mut row[..k], out);
     Ok(())

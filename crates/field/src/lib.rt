@@ -1,8 +1,7 @@
 // The finite fields, by field number. An element is a byte below q, its bits the coefficients of a polynomial. The sum is exclusive or.
-// Products are read from two tables, which an operation makes once by `powers` and `logarithms` and then passes by reference: the powers of the
+// Products are read from two tables, which an operation makes once, in a `Field`, and then passes by reference: the powers of the
 // generator twice, and then zeros; and for each byte its logarithm, then for each byte the logarithm of its inverse, where what stands for the
 // logarithm of zero leads to the zeros. So a product is one sum of logarithms and one power, with no branch.
-// The field number goes with the tables for the contracts' sake.
 #![tactic(auto)]
 
 ghost use Rattle.basics.specs.declared.Refusal.TheVariants.{FieldNumber};
@@ -32,6 +31,17 @@ pub fn is_field(m: u8) -> bool
     ensures { result ≡ is_field m }
 {
     2 <= m && m <= 9
+}
+
+// The same as a refusal.
+pub fn test_number(m: u8) -> Result<(), Refusal>
+    ensures found { IfOk result (λ _. IsField m) }
+    ensures refused { IfErr result (λ e. (e ≡ FieldNumber) × (is_field m ≡ false)) }
+{
+    if !is_field(m) {
+        return Err(Refusal::FieldNumber);
+    }
+    Ok(())
 }
 
 pub fn modulus(m: u8) -> u16
@@ -104,7 +114,8 @@ fn put_powers(row: &[u8; 255], at: usize, out: &mut [u8; 1021])
     }
 }
 
-// The powers twice, and then zeros.
+// The powers twice, and then zeros. Never inlined, so that the rows which it copies are gone from the stack when the operation goes on.
+#[inline(never)]
 pub fn powers(m: u8) -> [u8; 1021]
     requires { IsField m }
     ensures { result ≡ exp_table m }
@@ -153,7 +164,8 @@ fn put_neg_logs(m: u8, row: &[u8; 256], out: &mut [u16; 512])
     }
 }
 
-// The logarithms of all bytes, and then those of their inverses.
+// The logarithms of all bytes, and then those of their inverses. Never inlined, as `powers`.
+#[inline(never)]
 pub fn logarithms(m: u8) -> [u16; 512]
     requires { IsField m }
     ensures { result ≡ log_tables m }
@@ -181,19 +193,26 @@ pub struct Field {
 }
 
 impl Field {
+    // The field of a number that was tested. Inlined, so that the tables are made where they stay: each move of a field takes its two kilobytes of the stack again.
+    #[inline(always)]
+    pub fn of(m: u8) -> Field
+        requires { IsField m }
+        ensures { result.number ≡ m }
+    {
+        Field {
+            number: m,
+            powers: powers(m),
+            logs: logarithms(m),
+        }
+    }
+
     // The field of a number, if there is one.
     pub fn new(m: u8) -> Result<Field, Refusal>
         ensures field { IfOk result (λ f. f.number ≡ m) }
         ensures refused { IfErr result (λ e. (e ≡ FieldNumber) × (is_field m ≡ false)) }
     {
-        if !is_field(m) {
-            return Err(Refusal::FieldNumber);
-        }
-        Ok(Field {
-            number: m,
-            powers: powers(m),
-            logs: logarithms(m),
-        })
+        test_number(m)?;
+        Ok(Field::of(m))
     }
 
     // The number of elements.
@@ -275,13 +294,13 @@ pub fn fill_products(field: &Field, a: &[u8], b: &[u8], out: &mut [u8])
 pub fn products(m: u8, a: &[u8], b: &[u8], out: &mut [u8]) -> Result<(), Refusal>
     ensures { Meets (products_outcome m a.now b.now (length out.old)) (answer_of result) out.old out.new }
 {
-    let field = Field::new(m)?;
+    test_number(m)?;
     if a.len() != out.len() {
         return Err(Refusal::Length);
     }
     if b.len() != out.len() {
         return Err(Refusal::Length);
     }
-    fill_products(&field, a, b, out);
+    fill_products(&Field::of(m), a, b, out);
     Ok(())
 }

@@ -13,7 +13,7 @@ use crate::write::{begin_rows, write_rows};
 use basics::{MessageIndex, Refusal};
 use code::accepted::Code;
 use codewords::Parameters;
-use field::Field;
+use field::{Field, test_number};
 use generator::factors::rows_turn;
 use solving::tests::test_places;
 use solving::work::ROOM;
@@ -121,7 +121,8 @@ pub fn matrix(
     ensures { Meets (matrix_outcome (code_of code xs.now ys.now) places.now out.old work.old) (answer_of result)
         (out.old, work.old) (out.new, work.new) }
 {
-    let field = Field::new(code.field)?;
+    test_number(code.field)?;
+    let field = Field::of(code.field);
     let accepted = Code::new(&field, code.curve, code.k, xs, ys)?;
     matrix_tested(&accepted, places, out, work)
 }

@@ -9,4 +9,4 @@ use Rattle.curve.proofs.coefficients_below.Goals as goal
 
 pub returns : goal.returns
 returns c =
-    all_from_yields_List (λ g. ltb g (size c.args.field.now.number)) _ _ _ c.all.ensures.ran (YieldsList-from_slice (coefficients_of c.args.c) cc) (λ x b q k. search (rules, tests))
+    all_from_yields_List (λ g. ltb g (size c.args.m)) _ _ _ c.all.ensures.ran (YieldsList-from_slice (coefficients_of c.args.c) cc) (λ x b q k. search (rules, tests))

@@ -5,14 +5,14 @@ use Rattle.blocks.specs.Outcomes.{plain_tested}
 use Rattle.code.proofs.Opened.{no_field, no_code, opened}
 use Rattle.blocks.proofs.plain.plain.Goals as goal
 
-pub returns-in_err-field : goal.returns-in_err-field
-returns-in_err-field c = exit _ _ c.from_residual.ensures.1 (no_field c.args.code _ _ _ c.in_err-field.ensures.refused)
+pub returns-in_err-test_number : goal.returns-in_err-test_number
+returns-in_err-test_number c = exit _ _ c.from_residual.ensures.1 (no_field c.args.code _ _ _ c.in_err-test_number.ensures.refused)
 
 pub returns-in_err-accepted : goal.returns-in_err-accepted
 returns-in_err-accepted c =
-    exit _ _ c.from_residual-in_err-accepted.ensures.1 (no_code c.args.code _ _ c.in_ok-field.ensures.field _ c.in_err-accepted.ensures.refused)
+    exit _ _ c.from_residual-in_err-accepted.ensures.1 (no_code c.args.code _ _ c.of-field.ensures _ c.in_err-accepted.ensures.refused)
 
 pub returns : goal.returns
 returns c =
-    opened c.args.code _ _ c.in_ok-field.ensures.field (λ code. plain_tested code c.args.coefficients.now (length c.args.out.now)) c.in_ok-accepted.accepted
+    opened c.args.code _ _ c.of-field.ensures (λ code. plain_tested code c.args.coefficients.now (length c.args.out.now)) c.in_ok-accepted.accepted
     c.in_ok-accepted.ensures.accepted c.plain_tested.ensures
