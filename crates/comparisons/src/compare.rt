@@ -1,6 +1,4 @@
 // Each operation over chosen places beside the second coder: its answer, and where it accepts, what it writes.
-ghost use Rattle.std.specs.Prelude.{◌≤◌, length};
-
 use basics::Refusal;
 use blocks::plain::plain;
 use coder::pick::pick;
@@ -31,12 +29,11 @@ pub struct Trial<'a> {
     pub rows: &'a [u8],
     pub function: &'a [u8],
     pub word: &'a [u8],
-    pub ghost fits: { (length xs.now ≤ 288) × (code.k ≤ 288) },
 }
 
 impl Trial<'_> {
     // What Pick answers.
-    fn picked(&self) -> Result<(), Refusal> {
+    pub fn picked(&self) -> Result<(), Refusal> {
         if self.places.len() < self.code.k {
             return Err(Refusal::TooFew);
         }
@@ -47,7 +44,7 @@ impl Trial<'_> {
     }
 
     // What Rebuild and Recover answer.
-    fn rebuilt(&self) -> Result<(), Refusal> {
+    pub fn rebuilt(&self) -> Result<(), Refusal> {
         self.picked()?;
         if self.found.contradictions > 0 {
             return Err(Refusal::NoCodeword);
@@ -56,17 +53,17 @@ impl Trial<'_> {
     }
 
     // Plain of the function, beside its word.
-    fn compare_plain(&self, t: &mut Tally) {
+    pub fn compare_plain(&self, t: &mut Tally) {
         let mut out = [UNWRITTEN; MOST];
-        let out = &mut out[..self.xs.len()];
+        let out = &mut out[..self.xs.len().min(MOST)];
         let answer = plain(self.code, self.xs, self.ys, self.function, out);
         t.compared(answer.is_ok() && self.word == &*out);
     }
 
     // Pick, beside the first k places that the equations mark as new.
-    fn compare_pick(&self, t: &mut Tally) {
+    pub fn compare_pick(&self, t: &mut Tally) {
         let mut out = [0; MOST];
-        let out = &mut out[..self.code.k];
+        let out = &mut out[..self.code.k.min(MOST)];
         let expected = self.picked();
         let answer = pick(
             self.code,
@@ -83,9 +80,9 @@ impl Trial<'_> {
     }
 
     // Rebuild, beside the word.
-    fn compare_rebuild(&self, t: &mut Tally) {
+    pub fn compare_rebuild(&self, t: &mut Tally) {
         let mut out = [UNWRITTEN; MOST];
-        let out = &mut out[..self.xs.len()];
+        let out = &mut out[..self.xs.len().min(MOST)];
         let answer = rebuild(
             self.code,
             self.xs,
@@ -99,12 +96,12 @@ impl Trial<'_> {
     }
 
     // Recover of symbols at all places, beside the function.
-    fn compare_recover(&self, t: &mut Tally) {
+    pub fn compare_recover(&self, t: &mut Tally) {
         let mut received = [0; MOST];
-        let received = &mut received[..self.xs.len()];
+        let received = &mut received[..self.xs.len().min(MOST)];
         scatter(self.symbols, self.places, received);
         let mut out = [UNWRITTEN; MOST];
-        let out = &mut out[..self.code.k];
+        let out = &mut out[..self.code.k.min(MOST)];
         let answer = recover(
             self.code,
             self.xs,
@@ -117,9 +114,9 @@ impl Trial<'_> {
     }
 
     // Systematic function, beside the function.
-    fn compare_function(&self, t: &mut Tally) {
+    pub fn compare_function(&self, t: &mut Tally) {
         let mut out = [UNWRITTEN; MOST];
-        let out = &mut out[..self.code.k];
+        let out = &mut out[..self.code.k.min(MOST)];
         let answer = systematic_function(
             self.code,
             self.xs,
@@ -133,9 +130,9 @@ impl Trial<'_> {
     }
 
     // Systematic word, beside the word.
-    fn compare_word(&self, t: &mut Tally) {
+    pub fn compare_word(&self, t: &mut Tally) {
         let mut out = [UNWRITTEN; MOST];
-        let out = &mut out[..self.xs.len()];
+        let out = &mut out[..self.xs.len().min(MOST)];
         let answer = systematic_word(
             self.code,
             self.xs,
@@ -149,9 +146,9 @@ impl Trial<'_> {
     }
 
     // Relation, beside the function that the equations leave if every symbol is 0.
-    fn compare_relation(&self, t: &mut Tally) {
+    pub fn compare_relation(&self, t: &mut Tally) {
         let mut out = [UNWRITTEN; MOST];
-        let out = &mut out[..self.code.k];
+        let out = &mut out[..self.code.k.min(MOST)];
         let answer = relation(
             self.code,
             self.xs,
@@ -165,7 +162,7 @@ impl Trial<'_> {
             return;
         }
         let mut function = [0; MOST];
-        let function = &mut function[..self.code.k];
+        let function = &mut function[..self.code.k.min(MOST)];
         let solved = solution(self.code.field, self.rows, false, function);
         t.compared(solved.is_ok() && answer.is_ok());
         t.compared(&*function == &*out);
