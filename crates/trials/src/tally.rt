@@ -15,7 +15,7 @@ pub struct Tally {
 }
 
 // One more where the test holds; no group counts as far as the bound.
-fn counted(n: u64, test: bool) -> u64 {
+pub fn counted(n: u64, test: bool) -> u64 {
     n.saturating_add(u64::from(test))
 }
 
