@@ -1,5 +1,5 @@
 // Each operation over chosen places beside the second coder: its answer, and where it accepts, what it writes.
-use basics::Refusal;
+use basics::{Refusal, number};
 use blocks::plain::plain;
 use coder::pick::pick;
 use coder::rebuild::rebuild;
@@ -32,22 +32,22 @@ pub struct Trial<'a> {
 }
 
 impl Trial<'_> {
-    // What Pick answers.
-    pub fn picked(&self) -> Result<(), Refusal> {
+    // The number with which Pick refuses the places.
+    pub fn pick_number(&self) -> Result<(), u8> {
         if self.places.len() < self.code.k {
-            return Err(Refusal::TooFew);
+            return Err(13);
         }
         if self.found.rank < self.code.k {
-            return Err(Refusal::Dependent);
+            return Err(12);
         }
         Ok(())
     }
 
-    // What Rebuild and Recover answer.
-    pub fn rebuilt(&self) -> Result<(), Refusal> {
-        self.picked()?;
+    // The number with which Rebuild and Recover refuse the symbols at them.
+    pub fn rebuild_number(&self) -> Result<(), u8> {
+        self.pick_number()?;
         if self.found.contradictions > 0 {
-            return Err(Refusal::NoCodeword);
+            return Err(14);
         }
         Ok(())
     }
@@ -64,7 +64,7 @@ impl Trial<'_> {
     pub fn compare_pick(&self, t: &mut Tally) {
         let mut out = [0; MOST];
         let out = &mut out[..self.code.k.min(MOST)];
-        let expected = self.picked();
+        let expected = self.pick_number();
         let answer = pick(
             self.code,
             self.xs,
@@ -73,7 +73,7 @@ impl Trial<'_> {
             out,
             &mut [0; WORKING],
         );
-        t.compared(answer == expected);
+        t.compared(answer.map_err(number) == expected);
         if expected.is_ok() {
             t.compared(same_marked(self.places, self.marks, out));
         }
@@ -92,7 +92,7 @@ impl Trial<'_> {
             out,
             &mut [0; WORKING],
         );
-        compare(t, answer, self.rebuilt(), out, self.word);
+        compare(t, answer, self.rebuild_number(), out, self.word);
     }
 
     // Recover of symbols at all places, beside the function.
@@ -110,7 +110,7 @@ impl Trial<'_> {
             out,
             &mut [0; WORKING],
         );
-        compare(t, answer, self.rebuilt(), out, self.function);
+        compare(t, answer, self.rebuild_number(), out, self.function);
     }
 
     // Systematic function, beside the function.
@@ -126,7 +126,7 @@ impl Trial<'_> {
             out,
             &mut [0; WORKING],
         );
-        compare(t, answer, self.picked(), out, self.function);
+        compare(t, answer, self.pick_number(), out, self.function);
     }
 
     // Systematic word, beside the word.
@@ -142,7 +142,7 @@ impl Trial<'_> {
             out,
             &mut [0; WORKING],
         );
-        compare(t, answer, self.picked(), out, self.word);
+        compare(t, answer, self.pick_number(), out, self.word);
     }
 
     // Relation, beside the function that the equations leave if every symbol is 0.
@@ -157,8 +157,8 @@ impl Trial<'_> {
             out,
             &mut [0; WORKING],
         );
-        if self.picked() != Err(Refusal::Dependent) {
-            t.compared(answer == Err(Refusal::Independent));
+        if self.pick_number() != Err(12) {
+            t.compared(answer.map_err(number) == Err(15));
             return;
         }
         let mut function = [0; MOST];
@@ -179,7 +179,7 @@ impl Trial<'_> {
         if s == self.code.k {
             self.compare_function(t);
             self.compare_word(t);
-            t.chosen(self.picked() == Err(Refusal::Dependent));
+            t.chosen(self.pick_number() == Err(12));
         }
         self.compare_pick(t);
         if s == self.code.k {
@@ -192,11 +192,11 @@ impl Trial<'_> {
 fn compare(
     t: &mut Tally,
     answer: Result<(), Refusal>,
-    expected: Result<(), Refusal>,
+    expected: Result<(), u8>,
     out: &[u8],
     right: &[u8],
 ) {
-    t.compared(answer == expected);
+    t.compared(answer.map_err(number) == expected);
     if expected.is_ok() {
         t.compared(out == right);
     }

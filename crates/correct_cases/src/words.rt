@@ -2,7 +2,7 @@
 ghost use Rattle.std.specs.Prelude.{◌≤◌, ◌<◌, length};
 
 use crate::search::{Near, codewords, differ, radius, search};
-use basics::Refusal;
+use basics::{Refusal, number};
 use codewords::Parameters;
 use correction::operation::correct;
 use elimination::coder::word;
@@ -30,7 +30,7 @@ fn compare(
     t.chosen(found.count == 0);
     t.compared(found.count <= 1);
     if found.count == 0 {
-        t.compared(answer == Err(Refusal::TooFar) && out.iter().all(|x| *x == UNWRITTEN));
+        t.compared(answer.map_err(number) == Err(21) && out.iter().all(|x| *x == UNWRITTEN));
     } else {
         t.compared(answer == Ok(found.distance) && nearest == &*out);
     }

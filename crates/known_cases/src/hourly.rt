@@ -1,7 +1,7 @@
 // Known cases of hourly means and of their packing.
 ghost use Rattle.std.specs.Prelude.{◌≤◌};
 
-use basics::Refusal;
+use basics::number;
 use blocks::packing::{pack, unpack};
 use hours::means::means;
 use trials::eighty::{Eighty, code, eighty_points};
@@ -36,17 +36,17 @@ pub fn known_means() -> Tally {
 }
 
 // One reading at a stamp, in N hours from a first one on.
-fn one_stamp<const N: usize>(t: &mut Tally, stamp: u32, first: u32, expected: Result<(), Refusal>)
+fn one_stamp<const N: usize>(t: &mut Tally, stamp: u32, first: u32, expected: Result<(), u8>)
     requires { N ≤ 153 }
 {
     let mut out = [9; N];
-    t.compared(means(&[stamp], &[0], first, &mut out) == expected);
+    t.compared(means(&[stamp], &[0], first, &mut out).map_err(number) == expected);
 }
 
 // Stamps at the ends of hours: 0 is in none, 60 in the first, 61 in the second; and in 153 hours from the greatest first hour on.
 pub fn known_stamps() -> Tally {
     let mut t = Tally::default();
-    let refused = Err(Refusal::Hour);
+    let refused = Err(19);
     one_stamp::<1>(&mut t, 0, 0, refused);
     one_stamp::<1>(&mut t, 1, 0, Ok(()));
     one_stamp::<1>(&mut t, 60, 0, Ok(()));

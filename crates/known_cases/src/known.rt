@@ -1,5 +1,5 @@
 // The known cases of document 01, literally.
-use basics::Refusal;
+use basics::number;
 use coder::pick::pick;
 use coder::rebuild::rebuild;
 use coder::relation::relation;
@@ -29,9 +29,9 @@ fn points_b(t: &mut Tally) {
     t.compared(xs[0] == 0 && ys[0] == 1);
 }
 
-// What the points of a curve of field 2 are counted as.
-fn count(curve: Curve) -> Result<usize, Refusal> {
-    points(2, curve, &mut [0; MOST], &mut [0; MOST])
+// What the points of a curve of field 2 are counted as, a refusal by its number.
+fn count(curve: Curve) -> Result<usize, u8> {
+    points(2, curve, &mut [0; MOST], &mut [0; MOST]).map_err(number)
 }
 
 pub fn known_points() -> Tally {
@@ -41,29 +41,29 @@ pub fn known_points() -> Tally {
     let none = Curve { g6: 2, ..CURVE_A };
     let singular = Curve { g3: 0, ..CURVE_A };
     t.compared(count(none) == Ok(0));
-    t.compared(count(singular) == Err(Refusal::Singular));
+    t.compared(count(singular) == Err(3));
     t
 }
 
-// What an operation answers over A.
-fn function_a(k: usize, places: &[u16], message: &[u8], out: &mut [u8]) -> Result<(), Refusal> {
-    systematic_function(a(k), &XS_A, &YS_A, places, message, out, &mut [0; WORKING])
+// What an operation answers over A, a refusal by its number.
+fn function_a(k: usize, places: &[u16], message: &[u8], out: &mut [u8]) -> Result<(), u8> {
+    systematic_function(a(k), &XS_A, &YS_A, places, message, out, &mut [0; WORKING]).map_err(number)
 }
 
-fn word_a(k: usize, places: &[u16], message: &[u8], out: &mut [u8]) -> Result<(), Refusal> {
-    systematic_word(a(k), &XS_A, &YS_A, places, message, out, &mut [0; WORKING])
+fn word_a(k: usize, places: &[u16], message: &[u8], out: &mut [u8]) -> Result<(), u8> {
+    systematic_word(a(k), &XS_A, &YS_A, places, message, out, &mut [0; WORKING]).map_err(number)
 }
 
-fn relation_a(k: usize, places: &[u16], out: &mut [u8]) -> Result<(), Refusal> {
-    relation(a(k), &XS_A, &YS_A, places, out, &mut [0; WORKING])
+fn relation_a(k: usize, places: &[u16], out: &mut [u8]) -> Result<(), u8> {
+    relation(a(k), &XS_A, &YS_A, places, out, &mut [0; WORKING]).map_err(number)
 }
 
-fn pick_a(k: usize, places: &[u16], out: &mut [u16]) -> Result<(), Refusal> {
-    pick(a(k), &XS_A, &YS_A, places, out, &mut [0; WORKING])
+fn pick_a(k: usize, places: &[u16], out: &mut [u16]) -> Result<(), u8> {
+    pick(a(k), &XS_A, &YS_A, places, out, &mut [0; WORKING]).map_err(number)
 }
 
-fn rebuild_a(k: usize, places: &[u16], symbols: &[u8], out: &mut [u8]) -> Result<(), Refusal> {
-    rebuild(a(k), &XS_A, &YS_A, places, symbols, out, &mut [0; WORKING])
+fn rebuild_a(k: usize, places: &[u16], symbols: &[u8], out: &mut [u8]) -> Result<(), u8> {
+    rebuild(a(k), &XS_A, &YS_A, places, symbols, out, &mut [0; WORKING]).map_err(number)
 }
 
 // Systematic function of A with k = 5 at places 1,2,3,5,8.
@@ -85,7 +85,7 @@ fn example(t: &mut Tally) {
 // A, k = 2, places 1,2: dependent.
 fn pair_a(t: &mut Tally) {
     let answer = word_a(2, &[1, 2], &[1, 0], &mut [9; 8]);
-    t.compared(answer == Err(Refusal::Dependent));
+    t.compared(answer == Err(12));
 }
 
 // B, k = 2, places 1,2, message 1,0: the function.
@@ -107,7 +107,7 @@ fn word_b(t: &mut Tally) {
 // A, k = 3, places 3,5,7: dependent, though no two of them share X.
 fn line_function(t: &mut Tally) {
     let answer = function_a(3, &[3, 5, 7], &[1, 0, 0], &mut [9; 3]);
-    t.compared(answer == Err(Refusal::Dependent));
+    t.compared(answer == Err(12));
 }
 
 fn line_relation(t: &mut Tally) {
@@ -138,7 +138,7 @@ fn rebuilt(t: &mut Tally) {
 
 fn not_rebuilt(t: &mut Tally) {
     let answer = rebuild_a(5, &[1, 2, 3, 5, 8, 4], &[1, 0, 0, 0, 0, 0], &mut [9; 8]);
-    t.compared(answer == Err(Refusal::NoCodeword));
+    t.compared(answer == Err(14));
 }
 
 pub fn known_functions() -> Tally {
@@ -161,7 +161,7 @@ pub fn known_dimensions() -> Tally {
     let mut t = Tally::default();
     let none = word_a(0, &[], &[], &mut [9; 8]);
     let all = word_a(8, &[1, 2, 3, 4, 5, 6, 7, 8], &[0; 8], &mut [9; 8]);
-    t.compared(none == Err(Refusal::Dimension));
-    t.compared(all == Err(Refusal::Dimension));
+    t.compared(none == Err(7));
+    t.compared(all == Err(7));
     t
 }

@@ -1,7 +1,7 @@
 // Heard beside a plain listing of a mask's bits.
 ghost use Rattle.std.specs.Prelude.{◌<◌, ◌≤◌, length};
 
-use basics::Refusal;
+use basics::number;
 use code::heard::heard;
 use codewords::Parameters;
 use trials::memory::MOST;
@@ -36,12 +36,12 @@ fn any_past(mask: &[u8; 40], n: usize) -> bool {
     false
 }
 
-// What Heard answers, and where it accepts, the places of the set bits in front of the list.
-fn list_bits(mask: &[u8; 40], n: usize, list: &mut [u16; MOST]) -> Result<usize, Refusal>
+// What Heard answers, a refusal by its number, and where it accepts, the places of the set bits in front of the list.
+fn list_bits(mask: &[u8; 40], n: usize, list: &mut [u16; MOST]) -> Result<usize, u8>
     requires { n ≤ 288 }
 {
     if any_past(mask, n) {
-        return Err(Refusal::Place);
+        return Err(9);
     }
     let mut count = 0;
     for i in 0..n {
@@ -61,7 +61,7 @@ fn compare_heard(t: &mut Tally, code: Parameters, xs: &[u8], ys: &[u8], mask: &[
     let mut list = [UNHEARD; MOST];
     let answer = heard(code, xs, ys, mask, &mut out);
     let expected = list_bits(mask, xs.len(), &mut list);
-    t.compared(answer == expected && out == list);
+    t.compared(answer.map_err(number) == expected && out == list);
 }
 
 // The mask, and the same with a bit past n.

@@ -1,7 +1,7 @@
 // Matrix beside the second coder: its rows are the words of the unit messages.
 ghost use Rattle.std.specs.Prelude.{◌≤◌, length};
 
-use basics::Refusal;
+use basics::{Refusal, number};
 use codewords::Parameters;
 use matrix::operation::matrix;
 use trials::choose::choose;
@@ -67,7 +67,7 @@ pub fn try_matrix(
     let dependent = are_dependent(code.field, xs, ys, places) == Ok(true);
     t.chosen(dependent);
     if dependent {
-        t.compared(answer == Err(Refusal::Dependent));
+        t.compared(answer.map_err(number) == Err(12));
         return;
     }
     t.compared(answer.is_ok());

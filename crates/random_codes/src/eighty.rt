@@ -1,5 +1,5 @@
 // The curve 0,0,1,0,0 over 64 elements, with 80 points and k = 60: a day in a block, and the share of dependent choices.
-use basics::Refusal;
+use basics::{Refusal, number};
 use blocks::packing::{pack, unpack};
 use coder::pick::pick;
 use coder::rebuild::rebuild;
@@ -74,7 +74,7 @@ fn lose_arc(t: &mut Tally, p: &Eighty, slot: usize, day: &Day) {
 fn other_hours(t: &mut Tally, p: &Eighty) {
     let few = pack(code(K), &p.xs, &p.ys, &[0; 23], &mut [0; K]);
     let many = pack(code(K), &p.xs, &p.ys, &[0; 25], &mut [0; K]);
-    t.compared(few == Err(Refusal::Length) && many == Err(Refusal::Length));
+    t.compared(few.map_err(number) == Err(8) && many.map_err(number) == Err(8));
 }
 
 // The day's word, beside the second coder's.
@@ -118,7 +118,7 @@ fn is_dependent(state: &mut u64, p: &Eighty) -> bool {
     let mut chosen = [0; K];
     at_random(state, 80, &mut chosen);
     let work = &mut [0; WORKING];
-    pick(code(K), &p.xs, &p.ys, &chosen, &mut [0; K], work) == Err(Refusal::Dependent)
+    pick(code(K), &p.xs, &p.ys, &chosen, &mut [0; K], work).map_err(number) == Err(12)
 }
 
 // How many of 100,000 random choices are dependent.
