@@ -11,7 +11,7 @@ pub write_figures-requires : goal.write_figures-requires
 write_figures-requires c =
     let a = accepted_done _ c.requires.given.0.done in
     let g = c.begin_best.ensures.0.given in
-    (trust_places g, omega (arith, places_many g, a.k_most, a.n_most), c.requires.given.5, c.requires.given.6, c.requires.given.3)
+    (a.field, trust_places g, omega (arith, places_many g, a.k_most, a.n_most), c.requires.given.5, c.requires.given.6, c.requires.given.3)
 
 pub returns : goal.returns
 returns c = (
