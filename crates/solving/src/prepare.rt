@@ -15,7 +15,7 @@ pub fn prepare(code: &Code, places: &[u16], symbols: &[u8], f: &mut [u8]) -> Res
     ensures { Prepared (shown code.now) places.now symbols.now
         (HoldsFunction (shown code.now) places.now symbols.now f.new) (answer_of result) }
 {
-    test_lists(code, places, symbols)?;
+    test_lists(code.field.number, code.k, code.xs, places, symbols)?;
     if !solve(code, places, symbols, f) {
         return Err(Refusal::Dependent);
     }

@@ -20,7 +20,7 @@ pub fn prepare_word(
     ensures { Prepared (shown code.now) places.now symbols.now
         (f.new ≡ solved_word (shown code.now) places.now symbols.now) (answer_of result) }
 {
-    test_lists(code, places, symbols)?;
+    test_lists(code.field.number, code.k, code.xs, places, symbols)?;
     if !solve_word(code, places, symbols, f) {
         return Err(Refusal::Dependent);
     }
