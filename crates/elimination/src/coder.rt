@@ -1,5 +1,5 @@
 // The second coder: equations at points, their solution, and the word of a function.
-ghost use Rattle.std.specs.Prelude.{◌≡◌, ◌≤◌, length};
+ghost use Rattle.std.specs.Prelude.{◌≡◌, ◌≤◌, ◌∷◌, length, get_or};
 ghost use Rattle.elimination.specs.Sizes.{Room};
 
 use crate::equations::{Added, WIDTH, add_equation, clear, solve};
@@ -23,7 +23,9 @@ fn is_place(n: usize, other: usize, place: u16) -> bool {
 }
 
 // The symbol at a place; 0 where there is none.
-pub fn at(list: &[u8], place: u16) -> u8 {
+pub fn at(list: &[u8], place: u16) -> u8
+    ensures { result ≡ get_or (0 ∷ list.now) place 0 }
+{
     let index = usize::from(place).checked_sub(1);
     index.and_then(|i| list.get(i)).copied().unwrap_or(0)
 }
