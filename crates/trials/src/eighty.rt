@@ -16,7 +16,7 @@ pub struct Eighty {
 }
 
 pub fn code(k: usize) -> Parameters
-    ensures { result.k ≡ k }
+    ensures { (result.field ≡ 6) × (result.curve ≡ CURVE_A) × (result.k ≡ k) }
 {
     Parameters {
         field: 6,
