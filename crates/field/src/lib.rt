@@ -77,6 +77,7 @@ pub fn size(m: u8) -> usize
 
 // The first 255 powers of the generator. A constant array is made anew where it is read, so the rows stand in pairs: two of them are made. The last pair
 // stands the other way round: from four arms of one form the compiler makes a choice for each byte, some 350 ns for both tables.
+#[inline(never)]
 fn power_row(m: u8) -> [u8; 255]
     requires { IsField m }
     ensures { result ≡ power_table m }
@@ -91,6 +92,7 @@ fn power_row(m: u8) -> [u8; 255]
 }
 
 // The logarithms of all bytes, as bytes.
+#[inline(never)]
 fn log_row(m: u8) -> [u8; 256]
     requires { IsField m }
     ensures { result ≡ byte_log_table m }
@@ -114,17 +116,26 @@ fn put_powers(row: &[u8; 255], at: usize, out: &mut [u8; 1021])
     }
 }
 
-// The powers twice, and then zeros. Never inlined, so that the rows which it copies are gone from the stack when the operation goes on.
+// A row of powers twice, and then zeros.
 #[inline(never)]
+fn doubled(m: u8, row: &[u8; 255]) -> [u8; 1021]
+    requires { row.now ≡ power_table m }
+    ensures { result ≡ exp_table m }
+{
+    let mut out = [0u8; 1021];
+    put_powers(row, 0, &mut out);
+    put_powers(row, 255, &mut out);
+    out
+}
+
+// The powers twice, and then zeros. The row is read and doubled one after the other, by two functions that are not inlined: so the constants that
+// are copied for the one are gone from the stack before the other.
+#[inline(always)]
 pub fn powers(m: u8) -> [u8; 1021]
     requires { IsField m }
     ensures { result ≡ exp_table m }
 {
-    let row = power_row(m);
-    let mut out = [0u8; 1021];
-    put_powers(&row, 0, &mut out);
-    put_powers(&row, 255, &mut out);
-    out
+    doubled(m, &power_row(m))
 }
 
 // A logarithm of the row.
@@ -164,17 +175,25 @@ fn put_neg_logs(m: u8, row: &[u8; 256], out: &mut [u16; 512])
     }
 }
 
-// The logarithms of all bytes, and then those of their inverses. Never inlined, as `powers`.
+// The logarithms of a row, and then those of the inverses.
 #[inline(never)]
+fn with_negated(m: u8, row: &[u8; 256]) -> [u16; 512]
+    requires { IsField m × (row.now ≡ byte_log_table m) }
+    ensures { result ≡ log_tables m }
+{
+    let mut out = [0u16; 512];
+    put_logs(m, row, &mut out);
+    put_neg_logs(m, row, &mut out);
+    out
+}
+
+// The logarithms of all bytes, and then those of their inverses. As for the powers, one function after the other.
+#[inline(always)]
 pub fn logarithms(m: u8) -> [u16; 512]
     requires { IsField m }
     ensures { result ≡ log_tables m }
 {
-    let row = log_row(m);
-    let mut out = [0u16; 512];
-    put_logs(m, &row, &mut out);
-    put_neg_logs(m, &row, &mut out);
-    out
+    with_negated(m, &log_row(m))
 }
 
 pub fn add(a: u8, b: u8) -> u8

@@ -7,14 +7,14 @@ use lib.Seq.{length-paste}
 use Rattle.field.specs.Tables.{log_table, neg_log_table, log_tables}
 use Rattle.field.proofs.Lookup.{length_logs, length_neg_logs}
 use Rattle.field.proofs.Pastes.{paste_both}
-use Rattle.field.proofs.logarithms.Goals as goal
+use Rattle.field.proofs.with_negated.Goals as goal
 
 pub put_logs-requires : goal.put_logs-requires
-put_logs-requires c = (c.requires, c.log_row-row.ensures, refl)
+put_logs-requires c = (c.requires.0, c.requires.1, refl)
 
 pub put_neg_logs-requires : goal.put_neg_logs-requires
 put_neg_logs-requires c =
-    (c.requires, c.log_row-row.ensures, ap length c.put_logs.ensures ∙ length-paste (replicate 512 0) 0 (log_table c.args.m) 256 (omega arith) (omega (arith, length_logs c.args.m)))
+    (c.requires.0, c.requires.1, ap length c.put_logs.ensures ∙ length-paste (replicate 512 0) 0 (log_table c.args.m) 256 (omega arith) (omega (arith, length_logs c.args.m)))
 
 pub returns : goal.returns
 unfolding log_tables
