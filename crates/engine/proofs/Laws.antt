@@ -8,7 +8,9 @@ use mathlib.Core.Bool.{Bool, true, false, cond}
 use lib.Dec.{eqb}
 use lib.Bits.{bit_xor}
 use lib.ListN.{length, take, drop, get_or, set, replicate, drop_of_length-le, take-append-drop}
-use lib.Seq.{take_all, drop-length, length-take-le}
+use lib.Seq.{take_all, drop-length, length-take-le, get_or-take}
+use Rattle.basics.specs.Lists.{table}
+use Rattle.basics.proofs.Lists.{is_table}
 use Rattle.basics.proofs.Loops.{next, stored}
 use Rattle.field.specs.Sum.{◌⊕◌}
 use Rattle.field.specs.Galois.{IsField, galois, product, inverse}
@@ -25,6 +27,13 @@ module _ {m x l : ℕ} (h : IsField m) (x_lt : x < 256) (e : l ≡ logarithm m x
 
   pub by_logged : (b : ℕ) {p : ℕ} → p ≡ product_by_log m l b → p ≡ product m x b
   by_logged b q = q ∙ ap (λ k. product_by_log m k b) e ∙ by_log h x b x_lt
+
+-- the elements of l one by one, up to n
+pub table_take : (l : List ℕ) (n : ℕ) → n ≤ length l → table (λ i. get_or l i 0) n ≡ take n l
+table_take l n h =
+    let size : length (take n l) ≡ n = length-take-le n l h in
+    let all : take n l ≡ table (λ i. get_or l i 0) (length (take n l)) = is_table (λ i. get_or l i 0) (take n l) 0 (λ i k. get_or-take n l i 0 (rw size at k)) in
+    ap (table (λ i. get_or l i 0)) (sym size) ∙ sym all
 
 -- the first n elements of f were copied to the front of out, and zeros put behind them
 pub padded_as : (f c e : List ℕ) (n k : ℕ) → n ≤ length f → length c ≡ k → length e ≡ length c → take n c ≡ take n f

@@ -62,10 +62,12 @@ pub fn clear(f: &mut [u8])
     f.fill(0);
 }
 
-// The first n elements of `from`, to the front of out.
+// The first n elements of `from`, to the front of out. By a loop: `copy_from_slice` makes the archive need `memmove` from outside.
 pub fn copy(from: &[u8], n: usize, out: &mut [u8])
     requires { (n ≤ length from.now) × (n ≤ length out.old) }
     ensures { take n out.new ≡ take n from.now }
 {
-    out[..n].copy_from_slice(&from[..n]);
+    for i in 0..n {
+        out[i] = from[i];
+    }
 }
