@@ -94,7 +94,8 @@ fn best_in(
     begin_best(code, received, trusts, ranked, out, work);
     let k = code.k;
     let cost = find_best(code, received, trusts, &ranked[..k], budget, work, out);
-    write_figures(code.field.number, trusts, &ranked[..k], budget, cost, figures);
+    let m = code.field.number;
+    write_figures(m, trusts, &ranked[..k], budget, cost, figures);
     clear_room(work);
 }
 
