@@ -1,5 +1,5 @@
 // Plain search: all codewords by the second coder, and those of them within t.
-ghost use Rattle.std.specs.Prelude.{IfSome, ◌≡◌, ◌≤◌, length};
+ghost use Rattle.std.specs.Prelude.{IfSome, ◌≤◌};
 
 use basics::Refusal;
 use codewords::Parameters;
@@ -62,13 +62,11 @@ pub fn search(
     t: usize,
     words: usize,
     nearest: &mut [u8],
-) -> Result<Near, Refusal>
-    requires { (length xs.now ≤ 288) × (code.k ≤ 288) × (length nearest.old ≡ length xs.now) }
-{
+) -> Result<Near, Refusal> {
     let mut function = [0; MOST];
     let mut own = [0; MOST];
-    let function = &mut function[..code.k];
-    let own = &mut own[..xs.len()];
+    let function = &mut function[..code.k.min(MOST)];
+    let own = &mut own[..xs.len().min(MOST)];
     let mut found = Near {
         count: 0,
         distance: 0,
@@ -77,7 +75,9 @@ pub fn search(
         word(code.field, xs, ys, function, own)?;
         let distance = differ(own, received);
         if distance <= t {
-            nearest.copy_from_slice(own);
+            for (to, from) in nearest.iter_mut().zip(&*own) {
+                *to = *from;
+            }
             found = Near {
                 count: found.count.saturating_add(1),
                 distance,

@@ -59,7 +59,7 @@ pub fn try_searched(
     received: &[u8],
     words: usize,
 ) -> Result<(), Refusal>
-    requires { (length xs.now ≤ 288) × (code.k ≤ 288) }
+    requires { length xs.now ≤ 288 }
 {
     let n = xs.len();
     let mut nearest = [0; MOST];
